@@ -1,0 +1,7 @@
+pub mod Tests
+pub mod Refusals
+pub mod Search
+pub mod Count
+pub mod Loop
+pub mod Bits
+pub mod Tabulate

@@ -1,0 +1,82 @@
+-- `round_trip::write_then_read` meets its contract, by what the two calls ensure alone. Assumes nothing.
+use mathlib.Core.Path.{_≡_, refl, sym, ap, _∙_}
+use mathlib.Core.Bool.{true}
+use mathlib.Core.List.{List}
+use Prim.Native.Nat.{ℕ}
+use lib.Dec.{eqb}
+use lib.ListN.{length}
+use borrow.Author.Tests.{not-true, not-false}
+use Rattle.journal.specs.Journal.{write-refusal, written, read-refusal, read-out}
+use Rattle.round_trip.specs.Calls.{write-refused, written-read}
+use borrow.Author.Needs.{needs}
+use Rattle.round_trip.proofs.write_then_read.Statement.{statement}
+use Rattle.round_trip.proofs.write_then_read.Tie as tie
+
+write-requires : tie.Need-write-requires
+write-requires c κs = search needs
+
+wrote-requires : tie.Need-wrote-requires
+wrote-requires c κs = search needs
+
+same-length : tie.Need-same-length
+same-length c = search needs
+
+-- the answer of writing, as the definition gives it
+answered : (c : tie.After-wrote)
+    → c .wrote .result ≡ eqb
+    (write-refusal
+    (length (c .before .before .before .before .before .before .before .before .args .records .now))
+    (length (c .before .before .before .before .before .before .before .before .args .out .now))) 0
+answered c = c .wrote .ensures ∙ ap (λ (x : ℕ). eqb x 0) (c .before .before .before .write .ensures .0)
+
+returns : tie.Need-returns
+returns c =
+    let k = c .before in
+    let a = k .before .before .before .before .before .before .before .before .args in (
+      write-refused (a .records .now) (a .out .now) (a .back .now)
+          (sym (answered k) ∙ not-true (k .wrote .result) (c .if1 .taken)),
+      refl,
+    )
+
+read-requires : tie.Need-read-requires
+read-requires c κs = search needs
+
+was-read-requires : tie.Need-was-read-requires
+was-read-requires c κs = search needs
+
+same-length-2 : tie.Need-same-length-2
+same-length-2 c = search needs
+
+same-length-3 : tie.Need-same-length-3
+same-length-3 c = search needs
+
+returns-2 : tie.Need-returns-2
+returns-2 c =
+    let r = c .before .before .before in
+    let e = r .before .before .before in
+    let k = e .before in
+    let w = k .before .before .before .write in
+    let a = k .before .before .before .before .before .before .before .before .args in
+    let j = written (a .records .now) (a .out .now) in
+    let taken : eqb (write-refusal (length (a .records .now)) (length (a .out .now))) 0 ≡ true =
+    sym (answered k) ∙ not-false (k .wrote .result) (e .if1 .left) in
+    let same : c .was-read .result ≡ eqb (read-refusal j (length (a .back .now))) 0 =
+    c .was-read .ensures
+    ∙ ap (λ (x : ℕ). eqb x 0)
+    (r .read .ensures .0 ∙ ap (λ (x : List ℕ). read-refusal x (length (a .back .now))) (w .ensures .1)) in
+    let z = written-read (a .records .now) (a .out .now) (a .back .now) (c .was-read .result) taken same in
+    (z .0, r .read .ensures .1 ∙ ap (λ (x : List ℕ). read-out x (a .back .now)) (w .ensures .1) ∙ z .1)
+
+pub write-then-read-spec : {M : Type 1} → statement M
+write-then-read-spec =
+    tie.close
+    (tie.spec
+    write-requires
+    wrote-requires
+    same-length
+    returns
+    read-requires
+    was-read-requires
+    same-length-2
+    same-length-3
+    returns-2)

@@ -1,0 +1,3 @@
+pub mod Block
+pub mod Journal
+pub mod Calls
