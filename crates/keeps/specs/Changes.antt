@@ -1,0 +1,149 @@
+-- Changes of one cell that no test of another cell looks at keep a world sound: up, trust, letters in flight,
+-- held flags and marks. The argument: the frame is the same, so only the changed word's own test is to be
+-- shown. From it follow the crash, the loss, an arrival before its cascade, and the sending of OKs. It rests
+-- on Forms. Assumes nothing.
+use mathlib.Core.Path.{_≡_, refl, sym, ap, _∙_, subst}
+use mathlib.Core.Bool.{Bool, true, false, _&&_}
+use mathlib.Core.Logic.{_⊎_, inl, inr}
+use Prim.Native.Nat.{ℕ, zero, suc, _≤_, _<_, _^_}
+use native.Mathlib.Omega.{arith}
+use lib.Dec.{ltb, leb, eqb}
+use borrow.Author.Tests.{ltb-true, ltb-false, eqb-true, lt-ltb}
+use Rattle.base.specs.Tests.{clash, both-l, both-i, pick}
+use Rattle.base.specs.Bits.{bit, with, without, only, only-e, only-i, with-cases, without-old, sub-without, bit-mask-of, bit-mask-of-above}
+use Rattle.world.specs.World.{Cell, size, trust, up, held, marks, sender, flight, State, put}
+use Rattle.world.specs.Layout.{put-at}
+use Rattle.world.specs.Sound.{Frame, frame, process, message, addressee, sends, fit, fine, Sound}
+use Rattle.world.specs.SoundLaws.{word-in, word-is, size-high, Addressed, held-facts}
+use Rattle.world.specs.Machine.{addressed, addressees, in-turn, due, send-ok, send-oks, leave, mark, hold, crash}
+use Rattle.keeps.specs.Forms.{word-to, bit-below}
+
+-- A sound world in which p is a process.
+abbrev pub SoundAt : ℕ → State → Type 0
+SoundAt p s = Sound s × (p < s size)
+
+-- one cell that no other test looks at: its own test passes
+pub put-sound : (s : State) (c : Cell) (v : ℕ) → frame (put s c v) ≡ frame s → fit (frame s) c v ≡ true
+    → Sound s → Sound (put s c v)
+unfolding fine
+put-sound s c v same ok h d k =
+    ap (λ (f : Frame). fit f d (put s c v d)) same
+    ∙ put-at s c d v (λ x. fit (frame s) d x ≡ true)
+    (λ e. subst (λ (y : Cell). fit (frame s) y v ≡ true) e ok) (λ n. h d k)
+
+-- ---- letters go to addressees only
+-- the mask of the addressees names only addressees
+pub addressees-only : (s : State) (m : ℕ) → only 16 (addressees s m) (addressee (frame s) m) ≡ true
+addressees-only s m = only-i 16 (addressees s m) (addressee (frame s) m) (λ i _ e. go i e (ltb i (s size)) refl)
+  where
+    go : (i : ℕ) → bit (addressees s m) i ≡ true → (b : Bool) → ltb i (s size) ≡ b
+        → addressee (frame s) m i ≡ true
+    go i e true l =
+        both-i (process (frame s) i) (addressed s m i) l
+        (sym (bit-mask-of (s size) (addressed s m) i (ltb-true i (s size) l)) ∙ e)
+    go i e false l = clash e (bit-mask-of-above (s size) (addressed s m) i (ltb-false i (s size) l))
+
+-- ---- the crash
+pub crash-sound : (s : State) (p : ℕ) → Sound s → Sound (crash s p)
+unfolding crash put fit
+crash-sound s p h =
+    put-sound s (up p) 0 refl (word-is (process (frame s) p) 0 (leb 0 1) (λ _. refl) (λ _. refl)) h
+
+-- ---- a trust set that names existing processes
+pub trust-put-sound : (s : State) (p set : ℕ) → p < s size → set < 2 ^ s size
+    → Sound s → Sound (put s (trust p) set)
+unfolding put fit
+trust-put-sound s p set hp l h =
+    put-sound s (trust p) set refl (word-is (process (frame s) p) set (only 16 set (process (frame s)))
+    (λ _. only-i 16 set (process (frame s)) (λ q _ e. lt-ltb q (s size) (bit-below set (s size) q l e)))
+    (λ u. clash (lt-ltb p (s size) hp) u)) h
+
+-- ---- the letter leaves flight
+pub leave-sound : (s : State) (k m q p : ℕ) → k < 3 → m < 64 → q < 16 → Sound s → Sound (leave s k m q p)
+unfolding leave put fit fine
+leave-sound s k m q p hk hm hq h =
+    let x : ℕ = s (flight m k q) in
+    put-sound s (flight m k q) (without x p) refl
+    (word-to (message (frame s) m && sends (frame s) m k q) x (without x p) _ _
+    (λ u t. only-i 16 (without x p) (addressee (frame s) m)
+    (λ i l e. only-e 16 x (addressee (frame s) m) t i l (without-old x p i e)))
+    (λ u z. sym (sub-without x p) ∙ omega arith)
+    (h (flight m k q) (hm, hk, hq)))
+    h
+
+-- ---- the mark of the origin, who is an addressee where the letter is an OK
+pub mark-sound : (s : State) (k m q p : ℕ) → m < 64 → p < 16 → Addressed s p m
+    → (k ≡ 2 → addressee (frame s) m q ≡ true) → Sound s → Sound (mark s k m q p)
+unfolding mark put fit fine
+mark-sound s k m q p hm hp a from h = go (eqb k 2) refl
+  where
+    x : ℕ
+    x = s (marks p m)
+
+    used : (message (frame s) m && addressee (frame s) m p) ≡ true
+    used = both-i (message (frame s) m) (addressee (frame s) m p) (a .of) (a .to)
+
+    named : (i : ℕ) → i < 16 → eqb k 2 ≡ true → (bit x i ≡ true) ⊎ (q ≡ i) → addressee (frame s) m i ≡ true
+    named i l e (inl b) =
+        only-e 16 x (addressee (frame s) m) (word-in (message (frame s) m && addressee (frame s) m p) x _
+        (h (marks p m) (hp, hm)) used) i l b
+    named i l e (inr d) = subst (λ (y : ℕ). addressee (frame s) m y ≡ true) d (from (eqb-true k 2 e))
+
+    go : (b : Bool) → eqb k 2 ≡ b → Sound (pick b (put s (marks p m) (with x q)) s)
+    go false e = h
+    go true e = put-sound s (marks p m) (with x q) refl
+        (word-is (message (frame s) m && addressee (frame s) m p) (with x q) _
+        (λ _. only-i 16 (with x q) (addressee (frame s) m) (λ i l d. named i l e (with-cases x q i d)))
+        (λ u. clash used u)) h
+
+-- ---- an addressee sends a relay or an OK to all addressees
+pub send-sound : (s : State) (k m p : ℕ) → sends (frame s) m k p ≡ true → message (frame s) m ≡ true → Sound s
+    → Sound (put s (flight m k p) (addressees s m))
+unfolding put fit
+send-sound s k m p from of h =
+    put-sound s (flight m k p) (addressees s m) refl
+    (word-is (message (frame s) m && sends (frame s) m k p) (addressees s m) _ (λ _. addressees-only s m)
+    (λ u. clash (both-i (message (frame s) m) (sends (frame s) m k p) of from) u)) h
+
+-- relays and OKs come from addressees
+relay-or-ok : (f : Frame) (m p : ℕ) (b : Bool) → addressee f m p ≡ true → sends f m (pick b 2 1) p ≡ true
+unfolding sends
+relay-or-ok f m p true e = e
+relay-or-ok f m p false e = e
+
+-- the receiver holds m, and sends its OK or relay if it did not hold it before
+pub hold-sound : (s : State) (p m : ℕ) → Addressed s p m → Sound s → Sound (hold s p m)
+unfolding hold put fit
+hold-sound s p m a h = go (eqb (s (held p m)) 1)
+  where
+    holds : Sound (put s (held p m) 1)
+    holds = put-sound s (held p m) 1 refl
+        (word-is (message (frame s) m && addressee (frame s) m p) 1 (leb 1 1) (λ _. refl)
+        (λ u. clash (both-i (message (frame s) m) (addressee (frame s) m p) (a .of) (a .to)) u)) h
+
+    go : (b : Bool)
+        → Sound (pick b s (put (put s (held p m) 1) (flight m (pick (in-turn s p m) 2 1) p) (addressees s m)))
+    go true = h
+    go false =
+        send-sound (put s (held p m) 1) (pick (in-turn s p m) 2 1) m p
+        (relay-or-ok (frame s) m p (in-turn s p m) (a .to)) (a .of) holds
+
+-- ---- the OK for a held message, and those for all below k
+send-ok-sound : (s : State) (p q m : ℕ) → m < 64 → SoundAt p s → SoundAt p (send-ok s p q m)
+unfolding send-ok due put
+send-ok-sound s p q m hm (h, hp) = go (due s p q m) refl
+  where
+    go : (b : Bool) → due s p q m ≡ b → SoundAt p (pick b (put s (flight m 2 p) (addressees s m)) s)
+    go false e = (h, hp)
+    go true e =
+        let two = both-l (eqb (s (held p m)) 1 && eqb (s (sender m)) q) (in-turn s p m) e in
+        let one = eqb-true (s (held p m)) 1 (both-l (eqb (s (held p m)) 1) (eqb (s (sender m)) q) two) in
+        let a = held-facts s h p m (omega (arith, size-high s h)) hm (λ z. omega arith) in
+        (send-sound s 2 m p (relay-or-ok (frame s) m p true (a .to)) (a .of) h, hp)
+
+-- of all messages below k
+pub send-oks-sound : (s : State) (p q k : ℕ) → k ≤ 64 → SoundAt p s → SoundAt p (send-oks s p q k)
+unfolding send-oks
+send-oks-sound s p q zero hk h = h
+send-oks-sound s p q (suc k) hk h =
+    send-ok-sound (send-oks s p q k) p q k (omega arith) (send-oks-sound s p q k (omega arith) h)

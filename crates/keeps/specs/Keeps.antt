@@ -1,0 +1,158 @@
+-- Every call keeps a world sound: making one, every step, whatever is given as a step, settle, a list of
+-- these; on states and on words. This file gathers what the files below it prove: a fresh world is sound, and
+-- each of the five steps, where it is not refused, keeps soundness. Assumes nothing.
+use mathlib.Core.Path.{_≡_, refl, sym, ap, subst}
+use mathlib.Core.Bool.{Bool, true, false}
+use mathlib.Core.List.{List, [], _∷_}
+use Prim.Native.Nat.{ℕ}
+use native.Mathlib.Omega.{arith}
+use lib.Dec.{eqb}
+use lib.ListN.{length}
+use borrow.Author.Tests.{eqb-true, eq-eqb}
+use Rattle.base.specs.Tests.{pick}
+use Rattle.base.specs.Refusals.{needs-none}
+use Rattle.world.specs.World.{State, encode, view}
+use Rattle.world.specs.Layout.{length-encode}
+use Rattle.world.specs.Sound.{sound, Sound}
+use Rattle.world.specs.SoundLaws.{size-high, count-high, sound-facts, facts-sound, sound-words}
+use Rattle.world.specs.Setup.{setup-refusal, made}
+use Rattle.world.specs.Machine.{arrival}
+use Rattle.world.specs.Steps.{Step, multicasts, arrives, loses, trusts, crashes, malformed, read, refusal, accepted, step, after}
+use Rattle.world.specs.StepLaws.{accepted-multicast, accepted-arrival, accepted-loss, accepted-trust, moves-taken, lowest-moves}
+use Rattle.world.specs.Settle.{Choice, letter, lowest, settle-from, settle}
+use Rattle.world.specs.SettleLaws.{settle-keeps}
+use Rattle.world.specs.Words.{needs-world, unless-refused, making-refusal, made-words, step-words, step-refusal, stepped-words, settle-words, settled-words}
+use Rattle.world.specs.History.{Run, Item, given, settling, on-states, taken, tick, settles, act, run}
+use Rattle.world.specs.Calls.{item-words, run-words}
+use Rattle.keeps.specs.Changes.{crash-sound, leave-sound}
+use Rattle.keeps.specs.Cascade.{arrival-sound, trust-set-sound}
+use Rattle.keeps.specs.Multicast.{multicast-sound}
+use Rattle.keeps.specs.Fresh.{made-sound, setup-good}
+
+-- ---- states
+-- the fresh world of a setup record that is not refused
+pub fresh-sound : (bytes : List ℕ) → setup-refusal bytes ≡ 0 → Sound (made bytes)
+fresh-sound bytes e = made-sound bytes (setup-good bytes e)
+
+-- a step that is accepted
+pub step-sound : (s : State) (x : Step) → accepted s x ≡ true → Sound s → Sound (step s x)
+unfolding step
+step-sound s (multicasts p groups) e h =
+    let a = accepted-multicast s p groups e in
+    multicast-sound s p groups h (a .process) (a .mask) (a .room)
+step-sound s (arrives k m q p) e h =
+    let a = accepted-arrival s k m q p e .letter in
+    arrival-sound s k m q p (a .kind) (a .message) (a .from) (a .to) (a .flies) h
+step-sound s (loses k m q p) e h =
+    let a = accepted-loss s k m q p e in
+    leave-sound s k m q p (a .kind) (omega (arith, count-high s h)) (omega (arith, size-high s h)) h
+step-sound s (trusts p set) e h =
+    let a = accepted-trust s p set e in
+    trust-set-sound s p set (a .process) (a .mask) h
+step-sound s (crashes p) e h = crash-sound s p h
+step-sound s malformed e h = h
+
+-- whatever is given as a step (a refused one gives back the same state and the same words: Calls of world)
+pub after-sound : (s : State) (x : Step) → Sound s → Sound (after s x)
+unfolding after
+after-sound s x h = go (accepted s x) refl
+  where
+    go : (b : Bool) → accepted s x ≡ b → Sound (pick b (step s x) s)
+    go true e = step-sound s x e h
+    go false e = h
+
+-- settle, with any choice of letters whose arrivals are accepted
+pub settle-from-sound : (choose : State → Choice)
+    → ((s : State) (k m q p : ℕ) → choose s ≡ letter k m q p → accepted s (arrives k m q p) ≡ true)
+    → (s : State) (b n : ℕ) → Sound s → Sound (settle-from choose arrival b n s .world)
+unfolding step
+settle-from-sound choose able s b n h =
+    settle-keeps choose arrival Sound
+    (λ t k m q p e d. step-sound t (arrives k m q p) (able t k m q p e) d) b n s h
+
+-- the lowest letter is such a choice
+lowest-able : (s : State) (k m q p : ℕ) → lowest s ≡ letter k m q p → accepted s (arrives k m q p) ≡ true
+lowest-able s k m q p e = moves-taken s k m q p (lowest-moves s k m q p e)
+
+-- settle, with the choice of document 01 and any budget
+pub settle-sound : (s : State) (b : ℕ) → Sound s → Sound (settle s b .world)
+unfolding settle
+settle-sound s b h = settle-from-sound lowest lowest-able s b 0 h
+
+-- one item of a run, a step or a settle
+act-sound : (r : Run State) (i : Item) → Sound (r .now) → Sound (act on-states r i .now)
+unfolding act tick settles step
+act-sound r (given bytes) h = go (accepted (r .now) (read bytes)) refl
+  where
+    go : (b : Bool) → accepted (r .now) (read bytes) ≡ b → Sound (pick b (taken on-states r (read bytes)) r .now)
+    go true e = step-sound (r .now) (read bytes) e h
+    go false e = h
+act-sound r (settling b) h =
+    settle-keeps (λ t. lowest (t .now)) (λ t k m q p. taken on-states t (arrives k m q p))
+    (λ t. Sound (t .now))
+    (λ t k m q p e d. step-sound (t .now) (arrives k m q p) (lowest-able (t .now) k m q p e) d) b 0 r h
+
+-- a run of any list of items
+pub run-sound : (r : Run State) (items : List Item) → Sound (r .now) → Sound (run on-states r items .now)
+unfolding run
+run-sound r [] h = h
+run-sound r (i ∷ items) h = run-sound (act on-states r i) items (act-sound r i h)
+
+-- ---- words
+-- Words that are a sound world: those that are not refused with 1 or 2.
+pub record SoundWords (w : List ℕ) : Type 0 where
+  pub long : length w ≡ 20480
+  pub reads : Sound (view w)
+
+-- they are taken
+pub sound-words-taken : (w : List ℕ) → SoundWords w → needs-world w 0 ≡ 0
+sound-words-taken w h = rw (eq-eqb (length w) 20480 (h .long), facts-sound (view w) (h .reads))
+
+-- words that are taken are such
+pub taken-sound-words : (w : List ℕ) → needs-world w 0 ≡ 0 → SoundWords w
+taken-sound-words w e =
+    let a = needs-none 0 (eqb (length w) 20480) _ e in
+    let b = needs-none 1 (sound (view w)) 0 (a .1) in
+    record { long = eqb-true (length w) 20480 (a .0); reads = sound-facts (view w) (b .0) }
+
+-- the words of a sound state
+encoded : (s : State) → Sound s → SoundWords (encode s)
+encoded s h = record { long = length-encode s; reads = sound-words (encode s) s refl h }
+
+-- the words of a world just made
+pub made-words-sound : (w bytes : List ℕ) → making-refusal w bytes ≡ 0 → SoundWords (made-words w bytes)
+unfolding made-words making-refusal
+made-words-sound w bytes e =
+    let a = needs-none 0 (eqb (length w) 20480) (setup-refusal bytes) e in
+    subst SoundWords (sym (ap (λ (n : ℕ). unless-refused n (encode (made bytes)) w) e))
+    (encoded (made bytes) (fresh-sound bytes (a .1)))
+
+-- the words after whatever is given as a step
+pub stepped-words-sound : (w bytes : List ℕ) → SoundWords w → SoundWords (stepped-words w bytes)
+unfolding stepped-words step-refusal
+stepped-words-sound w bytes h = go (eqb (step-refusal w bytes) 0) refl
+  where
+    go : (b : Bool) → eqb (step-refusal w bytes) 0 ≡ b → SoundWords (pick b (step-words w (read bytes)) w)
+    go false e = h
+    go true e =
+        let a = needs-none 0 (eqb (length w) 20480) _ (eqb-true (step-refusal w bytes) 0 e) in
+        let b = needs-none 1 (sound (view w)) _ (a .1) in
+        encoded (step (view w) (read bytes)) (step-sound (view w) (read bytes) (eq-eqb (refusal (view w) (read bytes)) 0 (b .1)) (h .reads))
+
+-- the words after a settle with any budget
+pub settled-words-sound : (w : List ℕ) (b : ℕ) → SoundWords w → SoundWords (settled-words w b)
+unfolding settled-words settle-words step
+settled-words-sound w b h =
+    subst SoundWords
+    (sym (ap (λ (n : ℕ). unless-refused n (settle-words w b .world) w) (sound-words-taken w h)))
+    (settle-keeps (λ u. lowest (view u)) (λ u k m q p. encode (arrival (view u) k m q p)) SoundWords
+    (λ u k m q p e d. encoded (arrival (view u) k m q p)
+    (step-sound (view u) (arrives k m q p) (lowest-able (view u) k m q p e) (d .reads))) b 0 w h)
+
+-- the words after a list of steps and settles
+pub run-words-sound : (w : List ℕ) (items : List Item) → SoundWords w → SoundWords (run-words w items)
+unfolding run-words item-words
+run-words-sound w [] h = h
+run-words-sound w (given bytes ∷ items) h =
+    run-words-sound (stepped-words w bytes) items (stepped-words-sound w bytes h)
+run-words-sound w (settling b ∷ items) h = run-words-sound (settled-words w b) items (settled-words-sound w b h)

@@ -1,0 +1,9 @@
+pub mod Forms
+pub mod Logs
+pub mod Changes
+pub mod Causal
+pub mod Cascade
+pub mod Multicast
+pub mod Fresh
+pub mod Lengths
+pub mod Keeps

@@ -1,0 +1,97 @@
+-- Small laws of the calls: a refused call leaves the words as they were, and the words of a run of History
+-- are what the public calls of Words give in turn. Assumes nothing.
+use mathlib.Core.Path.{_≡_, refl, sym, ap, _∙_}
+use mathlib.Core.Bool.{Bool, true, false, _&&_}
+use mathlib.Core.List.{List, [], _∷_}
+use Prim.Native.Nat.{ℕ}
+use lib.Dec.{eqb}
+use lib.ListN.{length}
+use borrow.Author.Tests.{ne-eqb}
+use Rattle.base.specs.Tests.{pick}
+use Rattle.base.specs.Refusals.{needs}
+use Rattle.world.specs.World.{State, view}
+use Rattle.world.specs.Sound.{sound}
+use Rattle.world.specs.Steps.{Step, arrives, read, refusal, accepted, step, after}
+use Rattle.world.specs.Settle.{lowest, Settled, settle-from}
+use Rattle.world.specs.SettleLaws.{settle-related}
+use Rattle.world.specs.Words.{needs-world, unless-refused, making-refusal, made-words, step-words, step-refusal, stepped-words, settle-words, settled-words}
+use Rattle.world.specs.History.{on-words, Run, Item, given, settling, taken, tick, settles, act, run}
+
+-- ---- a refused call changes nothing
+pub refused-same : (n : ℕ) (u w : List ℕ) → (n ≡ 0 → ⊥) → unless-refused n u w ≡ w
+refused-same n u w h = rw (ne-eqb n 0 h)
+
+pub step-refused : (w bytes : List ℕ) → (step-refusal w bytes ≡ 0 → ⊥) → stepped-words w bytes ≡ w
+unfolding stepped-words
+step-refused w bytes h = refused-same (step-refusal w bytes) (step-words w (read bytes)) w h
+
+pub making-refused : (w bytes : List ℕ) → (making-refusal w bytes ≡ 0 → ⊥) → made-words w bytes ≡ w
+unfolding made-words
+making-refused w bytes h = refused-same (making-refusal w bytes) _ w h
+
+pub settle-refused : (w : List ℕ) (b : ℕ) → (needs-world w 0 ≡ 0 → ⊥) → settled-words w b ≡ w
+unfolding settled-words
+settle-refused w b h = refused-same (needs-world w 0) _ w h
+
+pub after-refused : (s : State) (x : Step) → (refusal s x ≡ 0 → ⊥) → after s x ≡ s
+unfolding after
+after-refused s x h = rw (ne-eqb (refusal s x) 0 h)
+
+-- ---- the words of a run
+-- What the calls give in turn.
+unfoldable pub item-words : List ℕ → Item → List ℕ
+item-words w (given bytes) = stepped-words w bytes
+item-words w (settling b) = settled-words w b
+
+unfoldable pub run-words : List ℕ → List Item → List ℕ
+run-words w [] = w
+run-words w (i ∷ is) = run-words (item-words w i) is
+
+-- the refusals 1 and 2 in front of n, as tests
+needs-split : (a b : Bool) (n : ℕ)
+    → eqb (needs 1 a (needs 2 b n)) 0 ≡ (eqb (needs 1 a (needs 2 b 0)) 0 && eqb n 0)
+needs-split true true n = refl
+needs-split true false n = refl
+needs-split false b n = refl
+
+pub tick-words : (r : Run (List ℕ)) (bytes : List ℕ)
+    → tick on-words r (read bytes) .now ≡ stepped-words (r .now) bytes
+unfolding tick stepped-words step-refusal
+tick-words r bytes =
+    let w : List ℕ = r .now in
+    choice (on-words .world w && accepted (view w) (read bytes))
+    ∙ ap (λ (b : Bool). pick b (step-words w (read bytes)) w)
+    (sym (needs-split (eqb (length w) 20480) (sound (view w)) (refusal (view w) (read bytes))))
+  where
+    choice : (b : Bool)
+        → pick b (taken on-words r (read bytes)) r .now ≡ pick b (step-words (r .now) (read bytes)) (r .now)
+    choice true = refl
+    choice false = refl
+
+pub settles-words : (r : Run (List ℕ)) (b : ℕ) → settles on-words r b .now ≡ settled-words (r .now) b
+unfolding settles settled-words settle-words step
+settles-words r b = go (on-words .world (r .now))
+  where
+    all : Settled (Run (List ℕ))
+    all = settle-from (λ t. lowest (view (t .now))) (λ t k m q p. taken on-words t (arrives k m q p)) b 0 r
+
+    same : all .world .now ≡ settle-words (r .now) b .world
+    same =
+        settle-related (λ t. lowest (view (t .now))) (λ t k m q p. taken on-words t (arrives k m q p))
+        (λ w. lowest (view w)) (λ w k m q p. step-words w (arrives k m q p)) (λ t w. t .now ≡ w)
+        (λ t w e. ap (λ (u : List ℕ). lowest (view u)) e)
+        (λ t w k m q p e _. ap (λ (u : List ℕ). step-words u (arrives k m q p)) e) b 0 r (r .now) refl
+        .worlds
+
+    go : (x : Bool) → pick x (all .world) r .now ≡ pick x (settle-words (r .now) b .world) (r .now)
+    go true = same
+    go false = refl
+
+pub run-is-calls : (r : Run (List ℕ)) (is : List Item) → run on-words r is .now ≡ run-words (r .now) is
+unfolding run run-words act item-words
+run-is-calls r [] = refl
+run-is-calls r (i ∷ is) = run-is-calls (act on-words r i) is ∙ ap (λ (w : List ℕ). run-words w is) (item i)
+  where
+    item : (i : Item) → act on-words r i .now ≡ item-words (r .now) i
+    item (given bytes) = tick-words r bytes
+    item (settling b) = settles-words r b

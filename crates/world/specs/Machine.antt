@@ -1,0 +1,205 @@
+-- What the five steps do to a state: document 01, section "Steps", in its order and words; the tests, the
+-- cascade with its two loops, and each step as a composition of named changes. It rests on the cells of
+-- World and on loops, masks and tests (base). Assumes nothing.
+use mathlib.Core.Bool.{Bool, not, _&&_, _||_}
+use Prim.Native.Nat.{ℕ, zero, suc, _+_, _-_, max}
+use lib.Dec.{leb, eqb}
+use Rattle.base.specs.Tests.{pick}
+use Rattle.base.specs.Search.{every}
+use Rattle.base.specs.Count.{absent}
+use Rattle.base.specs.Loop.{loop}
+use Rattle.base.specs.Bits.{bit, with, without, mask-of}
+use Rattle.world.specs.World.{size, count, rule, group, trust, counter, sequence, next, delivered, up, fifo-length, causal-length, held, marks, fifo, causal, sender, mask, stamp, number, flight, order, unused, State, put}
+
+-- ---- the tables of a state: C and b of the processes, and C and s on the messages
+pub record Tables : Type 0 where
+  pub counters : ℕ → ℕ → ℕ → ℕ
+  pub sequences : ℕ → ℕ → ℕ
+  pub stamps : ℕ → ℕ → ℕ → ℕ
+  pub numbers : ℕ → ℕ → ℕ
+
+-- s with these tables
+unfoldable pub with-tables : State → Tables → State
+with-tables s t size = s size
+with-tables s t count = s count
+with-tables s t rule = s rule
+with-tables s t (group p) = s (group p)
+with-tables s t (trust p) = s (trust p)
+with-tables s t (counter p g q) = t .counters p g q
+with-tables s t (sequence p g) = t .sequences p g
+with-tables s t (next p q) = s (next p q)
+with-tables s t (delivered p q) = s (delivered p q)
+with-tables s t (up p) = s (up p)
+with-tables s t (fifo-length p) = s (fifo-length p)
+with-tables s t (causal-length p) = s (causal-length p)
+with-tables s t (held p m) = s (held p m)
+with-tables s t (marks p m) = s (marks p m)
+with-tables s t (fifo p i) = s (fifo p i)
+with-tables s t (causal p i) = s (causal p i)
+with-tables s t (sender m) = s (sender m)
+with-tables s t (mask m) = s (mask m)
+with-tables s t (stamp m g q) = t .stamps m g q
+with-tables s t (number m g) = t .numbers m g
+with-tables s t (flight m k q) = s (flight m k q)
+with-tables s t (order m) = s (order m)
+with-tables s t (unused i) = s (unused i)
+
+-- ---- addressees
+-- "Its addressees are all processes of those groups": q is one of m's.
+abbrev pub addressed : State → ℕ → ℕ → Bool
+addressed s m q = bit (s (mask m)) (s (group q))
+
+-- The addressees of m, as a mask.
+abbrev pub addressees : State → ℕ → ℕ
+addressees s m = mask-of (s size) (addressed s m)
+
+-- ---- the tests of the cascade
+-- m is the next message of its sender to the group of p: "s[group of p] = next[sender]".
+abbrev pub in-turn : State → ℕ → ℕ → Bool
+in-turn s p m = eqb (s (number m (s (group p)))) (s (next p (s (sender m))))
+
+-- m is outside the FIFO log of p, and outside its causal log.
+abbrev pub outside-fifo : State → ℕ → ℕ → Bool
+outside-fifo s p m = absent (s (fifo-length p)) m (λ i. s (fifo p i))
+
+abbrev pub outside-causal : State → ℕ → ℕ → Bool
+outside-causal s p m = absent (s (causal-length p)) m (λ i. s (causal p i))
+
+-- p has an OK mark for m from q, if it waits for one: if it trusts q and q is an addressee.
+abbrev pub marked : State → ℕ → ℕ → ℕ → Bool
+marked s p m q = not (bit (s (trust p)) q && addressed s m q) || bit (s (marks p m)) q
+
+-- "some held m outside the FIFO log has s[group of p] = next[sender], and marks from every trusted process of
+-- each addressed group"
+unfoldable pub ready : State → ℕ → ℕ → Bool
+ready s p m = eqb (s (held p m)) 1 && outside-fifo s p m && in-turn s p m && every (s size) (marked s p m)
+
+-- "for all q other than the sender, the message's C[group of p][q] is at most del[q]": for one q.
+abbrev pub fits : State → ℕ → ℕ → ℕ → Bool
+fits s p m q = eqb q (s (sender m)) || leb (s (stamp m (s (group p)) q)) (s (delivered p q))
+
+-- "Deliverable": for all q.
+unfoldable pub deliverable : State → ℕ → ℕ → Bool
+deliverable s p m = every (s size) (fits s p m)
+
+-- "some message of the FIFO log outside the causal log is deliverable": the one at place i of the FIFO log.
+unfoldable pub deliverable-at : State → ℕ → ℕ → Bool
+deliverable-at s p i = outside-causal s p (s (fifo p i)) && deliverable s p (s (fifo p i))
+
+-- ---- causal deliveries at p
+-- "raise p's C to the entrywise maximum"
+unfoldable pub merge : State → ℕ → ℕ → State
+merge s p m = with-tables s (record {
+  counters = λ r g q. pick (eqb p r) (max (s (counter r g q)) (s (stamp m g q))) (s (counter r g q));
+  sequences = λ r g. s (sequence r g);
+  stamps = λ x g q. s (stamp x g q);
+  numbers = λ x g. s (number x g);
+})
+
+-- "append it to the causal log, set del[its sender] to its C[group of p][its sender], raise p's C": the
+-- message at place i of the FIFO log.
+unfoldable pub causal-one : State → ℕ → ℕ → State
+causal-one s p i =
+    let m = s (fifo p i) in
+    let q = s (sender m) in
+    let n = s (causal-length p) in
+    let t = put (put s (causal p n) m) (causal-length p) (n + 1) in
+    merge (put t (delivered p q) (s (stamp m (s (group p)) q))) p m
+
+-- "while some message of the FIFO log outside the causal log is deliverable, take the earliest in the FIFO
+-- log". No more can be delivered than stand in the FIFO log alone: that is the fuel.
+unfoldable pub causal-all : State → ℕ → State
+causal-all s p =
+    loop (λ t. t (fifo-length p)) (λ t. deliverable-at t p) (λ t. causal-one t p)
+    (s (fifo-length p) - s (causal-length p)) s
+
+-- ---- FIFO deliveries at p
+-- "Append it to the FIFO log."
+unfoldable pub appended : State → ℕ → ℕ → State
+appended s p m = put (put s (fifo p (s (fifo-length p))) m) (fifo-length p) (s (fifo-length p) + 1)
+
+-- "Then next[sender of m] rises by 1": of the sender q.
+unfoldable pub raised-next : State → ℕ → ℕ → State
+raised-next s p q = put s (next p q) (s (next p q) + 1)
+
+-- p owes an OK for m of the sender q: "each held message of that same sender whose s[group of p] equals it".
+unfoldable pub due : State → ℕ → ℕ → ℕ → Bool
+due s p q m = eqb (s (held p m)) 1 && eqb (s (sender m)) q && in-turn s p m
+
+-- p sends the OK for m to all addressees, if it owes one.
+unfoldable pub send-ok : State → ℕ → ℕ → ℕ → State
+send-ok s p q m = pick (due s p q m) (put s (flight m 2 p) (addressees s m)) s
+
+-- "p sends OK for each held message of that same sender": of the messages below k.
+unfoldable pub send-oks : State → ℕ → ℕ → ℕ → State
+send-oks s p q zero = s
+send-oks s p q (suc k) = send-ok (send-oks s p q k) p q k
+
+-- One turn of the cascade: append m, the causal deliveries, next, the OKs.
+unfoldable pub fifo-one : State → ℕ → ℕ → State
+fifo-one s p m =
+    let t = raised-next (causal-all (appended s p m) p) p (s (sender m)) in
+    send-oks t p (s (sender m)) (t count)
+
+-- "Cascade at p: while some held m .., take the lowest such m." The fuel: the messages outside the FIFO log.
+unfoldable pub cascade : State → ℕ → State
+cascade s p = loop (λ t. t count) (λ t. ready t p) (λ t. fifo-one t p) (s count - s (fifo-length p)) s
+
+-- ---- 1 multicast by p to the groups of a mask
+-- "For each group g in the mask p raises C[g][p] and b[g] by 1."
+unfoldable pub raised : State → ℕ → ℕ → State
+raised s p groups = with-tables s (record {
+  counters = λ r g q. pick (eqb p r && eqb p q && bit groups g) (s (counter r g q) + 1) (s (counter r g q));
+  sequences = λ r g. pick (eqb p r && bit groups g) (s (sequence r g) + 1) (s (sequence r g));
+  stamps = λ x g q. s (stamp x g q);
+  numbers = λ x g. s (number x g);
+})
+
+-- "Only then are C and b copied onto the message as C and s."
+unfoldable pub stamped : State → ℕ → ℕ → State
+stamped s p m = with-tables s (record {
+  counters = λ r g q. s (counter r g q);
+  sequences = λ r g. s (sequence r g);
+  stamps = λ x g q. pick (eqb m x) (s (counter p g q)) (s (stamp x g q));
+  numbers = λ x g. pick (eqb m x) (s (sequence p g)) (s (number x g));
+})
+
+-- "numbered from 0 in order; the count is the number so far": message number count has this sender and mask.
+unfoldable pub numbered : State → ℕ → ℕ → State
+numbered s p groups = put (put (put s (sender (s count)) p) (mask (s count)) groups) count (s count + 1)
+
+-- "First letters go in flight to all addressees, down ones too."
+unfoldable pub posted : State → ℕ → ℕ → State
+posted s p m = put s (flight m 0 p) (addressees s m)
+
+unfoldable pub multicast : State → ℕ → ℕ → State
+multicast s p groups = posted (numbered (stamped (raised s p groups) p (s count)) p groups) p (s count)
+
+-- ---- 2 arrival of the letter of kind k for m from q to p
+-- "The letter leaves flight."
+unfoldable pub leave : State → ℕ → ℕ → ℕ → ℕ → State
+leave s k m q p = put s (flight m k q) (without (s (flight m k q)) p)
+
+-- "Kind 2 sets the mark of its origin."
+unfoldable pub mark : State → ℕ → ℕ → ℕ → ℕ → State
+mark s k m q p = pick (eqb k 2) (put s (marks p m) (with (s (marks p m)) q)) s
+
+-- "If the receiver did not hold m, it holds it now and sends, to all addressees, OK if s[its group] =
+-- next[sender], else relay."
+unfoldable pub hold : State → ℕ → ℕ → State
+hold s p m =
+    pick (eqb (s (held p m)) 1) s
+    (put (put s (held p m) 1) (flight m (pick (in-turn s p m) 2 1) p) (addressees s m))
+
+-- "Then the cascade."
+unfoldable pub arrival : State → ℕ → ℕ → ℕ → ℕ → State
+arrival s k m q p = cascade (hold (mark (leave s k m q p) k m q p) p m) p
+
+-- ---- 3 loss: "The letter leaves flight", and nothing else (leave)
+-- ---- 4 trust: the set of p "replaces the set. Then the cascade."
+unfoldable pub trust-set : State → ℕ → ℕ → State
+trust-set s p set = cascade (put s (trust p) set) p
+
+-- ---- 5 crash of p
+unfoldable pub crash : State → ℕ → State
+crash s p = put s (up p) 0

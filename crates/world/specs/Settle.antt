@@ -1,0 +1,74 @@
+-- Settle: arrivals one after the other, each of the letter that a choice names, at most a given number:
+-- document 01, section "Precedence, trust rule, settle". The choice is a parameter; document 01's is the
+-- lowest letter between two up processes. It rests on Machine. Assumes nothing.
+use mathlib.Core.Bool.{Bool, true, false, _&&_}
+use Prim.Native.Nat.{ℕ, zero, suc, _+_}
+use lib.Dec.{ltb}
+use Rattle.base.specs.Search.{first-from}
+use Rattle.world.specs.World.{size, count, State}
+use Rattle.world.specs.Machine.{arrival}
+use Rattle.world.specs.Steps.{is-up, in-flight}
+
+-- ---- the choice: a letter (kind, message, from, to), or nothing
+pub data Choice : Type 0 where
+  letter : ℕ → ℕ → ℕ → ℕ → Choice
+  nothing : Choice
+
+-- "in flight between two up processes": the letter of kind k for m from q to p can move.
+unfoldable pub moves : State → ℕ → ℕ → ℕ → ℕ → Bool
+moves s m k q p = in-flight s k m q p && is-up s q && is-up s p
+
+-- "The search over message, letter kind, sender and receiver ends at the first letter found": the lowest
+-- receiver, the lowest sender that has one, the lowest kind that has such a sender, whether there is one.
+unfoldable pub receiver : State → ℕ → ℕ → ℕ → ℕ
+receiver s m k q = first-from (s size) 0 (moves s m k q)
+
+unfoldable pub origin : State → ℕ → ℕ → ℕ
+origin s m k = first-from (s size) 0 (λ q. ltb (receiver s m k q) (s size))
+
+unfoldable pub kind : State → ℕ → ℕ
+kind s m = first-from 3 0 (λ k. ltb (origin s m k) (s size))
+
+unfoldable pub movable : State → ℕ → Bool
+movable s m = ltb (kind s m) 3
+
+-- The lowest letter of m that can move, by kind, from, to.
+unfoldable pub letter-of : State → ℕ → Choice
+letter-of s m =
+    let k = kind s m in
+    let q = origin s m k in
+    letter k m q (receiver s m k q)
+
+-- "the lowest letter in flight between two up processes, by message, kind, from, to"
+unfoldable pub lowest : State → Choice
+lowest s =
+    let m = first-from (s count) 0 (movable s) in
+    elim (ltb m (s count)) [ true ↦ letter-of s m | false ↦ nothing ]
+
+-- ---- "It returns the number of arrivals made and done, or stopped."
+pub data Ending : Type 0 where
+  done stopped : ℕ → Ending
+
+pub record Settled (S : Type 0) : Type 0 where
+  pub world : S
+  pub ending : Ending
+
+-- Over any states, with any choice and any arrival.
+module _ {S : Type 0} (choose : S → Choice) (arrive : S → ℕ → ℕ → ℕ → ℕ → S) where
+  -- At most b more arrivals, n having been made; "stopped: exactly when that number is the budget and such
+  -- a letter remains".
+  unfoldable pub settle-from : ℕ → ℕ → S → Settled S
+  settle-from zero n s =
+      elim (choose s) [
+        | letter k m q p ↦ record { world = s; ending = stopped n }
+        | nothing ↦ record { world = s; ending = done n }
+      ]
+  settle-from (suc b) n s =
+      elim (choose s) [
+        | letter k m q p ↦ settle-from b (n + 1) (arrive s k m q p)
+        | nothing ↦ record { world = s; ending = done n }
+      ]
+
+-- Settle on a state, with a budget and document 01's choice.
+unfoldable pub settle : State → ℕ → Settled State
+settle s b = settle-from lowest arrival b 0 s

@@ -1,0 +1,55 @@
+-- Laws of settle: two settles over related states take the same letters, end in related states and answer
+-- the same; what each arrival keeps, a settle keeps. Assumes nothing.
+use mathlib.Core.Path.{_≡_, refl, ap, subst}
+use Prim.Native.Nat.{ℕ, zero, suc, _+_}
+use Rattle.world.specs.Settle.{Choice, letter, nothing, done, stopped, Settled, settle-from}
+
+-- Related worlds, and the same answer.
+pub record Alike {S T : Type 0} (R : S → T → Type 0) (x : Settled S) (y : Settled T) : Type 0 where
+  pub worlds : R (x .world) (y .world)
+  pub endings : x .ending ≡ y .ending
+
+module _ {S T : Type 0} (choose-s : S → Choice) (arrive-s : S → ℕ → ℕ → ℕ → ℕ → S)
+    (choose-t : T → Choice) (arrive-t : T → ℕ → ℕ → ℕ → ℕ → T) (R : S → T → Type 0)
+    (same-choice : (s : S) (t : T) → R s t → choose-s s ≡ choose-t t)
+    (same-arrival : (s : S) (t : T) (k m q p : ℕ) → R s t → choose-s s ≡ letter k m q p
+    → R (arrive-s s k m q p) (arrive-t t k m q p)) where
+  -- one more letter, or the end: more says what follows a letter
+  next-of : {A : Type 0} → Choice → (ℕ → ℕ → ℕ → ℕ → Settled A) → A → ℕ → Settled A
+  next-of c more s n =
+      elim c [ letter k m q p ↦ more k m q p | nothing ↦ record { world = s; ending = done n } ]
+
+  step-alike : (n : ℕ) (s : S) (t : T) (f : ℕ → ℕ → ℕ → ℕ → Settled S) (g : ℕ → ℕ → ℕ → ℕ → Settled T) → R s t
+      → ((k m q p : ℕ) → choose-s s ≡ letter k m q p → Alike R (f k m q p) (g k m q p))
+      → Alike R (next-of (choose-s s) f s n) (next-of (choose-t t) g t n)
+  unfolding next-of
+  step-alike n s t f g r same =
+      subst (λ (c : Choice). Alike R (next-of (choose-s s) f s n) (next-of c g t n)) (same-choice s t r)
+      (go (choose-s s) refl)
+    where
+      go : (c : Choice) → choose-s s ≡ c → Alike R (next-of c f s n) (next-of c g t n)
+      go (letter k m q p) e = same k m q p e
+      go nothing e = record { worlds = r; endings = refl }
+
+  pub settle-related : (b n : ℕ) (s : S) (t : T) → R s t
+      → Alike R (settle-from choose-s arrive-s b n s) (settle-from choose-t arrive-t b n t)
+  unfolding settle-from next-of
+  settle-related zero n s t r =
+      step-alike n s t (λ k m q p. record { world = s; ending = stopped n })
+      (λ k m q p. record { world = t; ending = stopped n }) r
+      (λ k m q p e. record { worlds = r; endings = refl })
+  settle-related (suc b) n s t r =
+      step-alike n s t (λ k m q p. settle-from choose-s arrive-s b (n + 1) (arrive-s s k m q p))
+      (λ k m q p. settle-from choose-t arrive-t b (n + 1) (arrive-t t k m q p)) r
+      (λ k m q p e. settle-related b (n + 1) (arrive-s s k m q p) (arrive-t t k m q p)
+      (same-arrival s t k m q p r e))
+
+-- what each arrival of a chosen letter keeps
+module _ {S : Type 0} (choose : S → Choice) (arrive : S → ℕ → ℕ → ℕ → ℕ → S) (P : S → Type 0)
+    (keep : (s : S) (k m q p : ℕ) → choose s ≡ letter k m q p → P s → P (arrive s k m q p)) where
+  pub settle-keeps : (b n : ℕ) (s : S) → P s → P (settle-from choose arrive b n s .world)
+  settle-keeps b n s h =
+      settle-related choose arrive choose arrive (λ x y. (x ≡ y) × P x) (λ x y r. ap choose (r .0))
+      (λ x y k m q p r e. (ap (λ (z : S). arrive z k m q p) (r .0), keep x k m q p e (r .1))) b n s s
+      (refl, h)
+      .worlds .1

@@ -1,0 +1,87 @@
+-- What the public calls do to lent words and bytes: document 01, sections "Logs and journal" and
+-- "Refusals". Each call first refuses words that are no sound world (1, 2), then what its own sentence
+-- refuses, lowest number first; a refusal leaves the words as they were. It rests on Sound, Setup, Steps
+-- and Settle. Assumes nothing.
+use mathlib.Core.Bool.{Bool, true, false}
+use mathlib.Core.List.{List, []}
+use Prim.Native.Nat.{ℕ}
+use lib.Dec.{eqb}
+use lib.ListN.{length, take, drop}
+use Rattle.base.specs.Tests.{pick}
+use Rattle.base.specs.Refusals.{needs}
+use Rattle.world.specs.World.{fifo-length, causal-length, fifo, causal, addr, State, encode, view}
+use Rattle.world.specs.Sound.{sound}
+use Rattle.world.specs.Setup.{setup-refusal, made}
+use Rattle.world.specs.Machine.{arrival}
+use Rattle.world.specs.Steps.{Step, read, refusal, is-process, step}
+use Rattle.world.specs.Settle.{Ending, Settled, lowest, settle-from}
+
+-- ---- refusals 1 and 2
+-- "1 world not 20,480 words; 2 world not sound", else what follows.
+abbrev pub needs-world : List ℕ → ℕ → ℕ
+needs-world w rest = needs 1 (eqb (length w) 20480) (needs 2 (sound (view w)) rest)
+
+-- The words u where the refusal is 0, else the words as they were.
+abbrev pub unless-refused : ℕ → List ℕ → List ℕ → List ℕ
+unless-refused n u w = pick (eqb n 0) u w
+
+-- ---- what a call that gives a value answers: the value, or the number of a refusal
+pub data Reply (A : Type 0) : Type 0 where
+  gives : A → Reply A
+  refuses : ℕ → Reply A
+
+abbrev pub reply : {A : Type 0} → ℕ → A → Reply A
+reply n a = pick (eqb n 0) (gives a) (refuses n)
+
+-- ---- making a world from a setup record
+-- "Making a world from a setup record gives 1, then 3"; it overwrites any words and never gives 2.
+unfoldable pub making-refusal : List ℕ → List ℕ → ℕ
+making-refusal w bytes = needs 1 (eqb (length w) 20480) (setup-refusal bytes)
+
+unfoldable pub made-words : List ℕ → List ℕ → List ℕ
+made-words w bytes = unless-refused (making-refusal w bytes) (encode (made bytes)) w
+
+-- ---- a step: 1, 2, then 4 to 12
+-- The words after an accepted step.
+abbrev pub step-words : List ℕ → Step → List ℕ
+step-words w x = encode (step (view w) x)
+
+unfoldable pub step-refusal : List ℕ → List ℕ → ℕ
+step-refusal w bytes = needs-world w (refusal (view w) (read bytes))
+
+unfoldable pub stepped-words : List ℕ → List ℕ → List ℕ
+stepped-words w bytes = unless-refused (step-refusal w bytes) (step-words w (read bytes)) w
+
+-- ---- settle: "Its refusals are 1 and 2."
+-- The arrivals that it makes, on words.
+unfoldable pub settle-words : List ℕ → ℕ → Settled (List ℕ)
+settle-words w b = settle-from (λ u. lowest (view u)) (λ u k m q p. encode (arrival (view u) k m q p)) b 0 w
+
+unfoldable pub settled-words : List ℕ → ℕ → List ℕ
+settled-words w b = unless-refused (needs-world w 0) (settle-words w b .world) w
+
+unfoldable pub settle-reply : List ℕ → ℕ → Reply Ending
+settle-reply w b = reply (needs-world w 0) (settle-words w b .ending)
+
+-- ---- logs: "a bool picks FIFO or causal": true picks causal
+abbrev pub log-length : State → ℕ → Bool → ℕ
+log-length s p true = s (causal-length p)
+log-length s p false = s (fifo-length p)
+
+-- Where the log of p begins among the words.
+abbrev pub log-start : ℕ → Bool → ℕ
+log-start p true = addr (causal p 0)
+log-start p false = addr (fifo p 0)
+
+-- "the refusal, 1, 2 or 5"
+unfoldable pub log-refusal : List ℕ → ℕ → ℕ
+log-refusal w p = needs-world w (needs 5 (is-process (view w) p) 0)
+
+-- "A log is read as a part of the lent world itself, empty on refusal"
+unfoldable pub log-words : List ℕ → ℕ → Bool → List ℕ
+log-words w p log =
+    unless-refused (log-refusal w p) (take (log-length (view w) p log) (drop (log-start p log) w)) []
+
+-- "a second call gives its length or the refusal"
+unfoldable pub length-reply : List ℕ → ℕ → Bool → Reply ℕ
+length-reply w p log = reply (log-refusal w p) (log-length (view w) p log)
