@@ -1,0 +1,5 @@
+pub mod Known
+pub mod Counted
+pub mod Logs
+pub mod Process
+pub mod Message

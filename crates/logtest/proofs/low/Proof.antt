@@ -1,0 +1,62 @@
+-- `logtest::low` meets its contract. The loop's invariant: `ok` says whether the items passed are below 64.
+-- Assumes nothing.
+use mathlib.Core.Path.{_≡_, refl}
+use Prim.Native.Nat.{_-_, _≤_}
+use native.Mathlib.Omega.{arith}
+use Rattle.ranges.specs.Laws.{every-none, gathers}
+use Rattle.logtest.specs.Log.{low-at}
+use borrow.Author.Needs.{needs}
+use Rattle.logtest.proofs.low.Statement.{statement}
+use Rattle.logtest.proofs.low.Tie as tie
+
+abbrev Inv-loop : tie.InvT-loop
+Inv-loop w a n ok₀ i₀ ok i = (i ≤ n) × (ok ≡ low-at w a i)
+
+abbrev μ-loop : tie.MeasureT-loop
+μ-loop w a n ok₀ i₀ ok i = n - i
+
+loop-holds : tie.Need-loop-holds Inv-loop μ-loop
+unfolding low-at
+loop-holds c = (omega arith, every-none _)
+
+add-ok : tie.Need-add-ok Inv-loop μ-loop
+add-ok c = search needs
+
+mul-ok : tie.Need-mul-ok Inv-loop μ-loop
+mul-ok c = search needs
+
+shared-slice-read-ok : tie.Need-shared-slice-read-ok Inv-loop μ-loop
+shared-slice-read-ok c = search needs
+
+add-i : tie.Need-add-i Inv-loop μ-loop
+add-i c = search needs
+
+loop-less : tie.Need-loop-less Inv-loop μ-loop
+loop-less c = search needs
+
+loop-again : tie.Need-loop-again Inv-loop μ-loop
+unfolding low-at
+loop-again c =
+    let l = c .before .before .loop in
+    (omega arith, gathers _ (l .i) (l .ok) _ (l .inv .1) refl)
+
+returns : tie.Need-returns Inv-loop μ-loop
+returns c =
+    let l = c .before .loop in
+    let e : l .i ≡ c .before .before .args .n = omega arith in
+    rw e at (l .inv .1)
+
+pub low-spec : {M : Type 1} → statement M
+low-spec =
+    tie.close
+    (tie.spec
+    Inv-loop
+    μ-loop
+    loop-holds
+    add-ok
+    mul-ok
+    shared-slice-read-ok
+    add-i
+    loop-less
+    loop-again
+    returns)

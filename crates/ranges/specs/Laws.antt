@@ -1,0 +1,95 @@
+-- Laws of tests over a run: one test more, two runs side by side, and tests that pass together. Assumes
+-- nothing.
+use mathlib.Core.Path.{_≡_, refl, sym, ap, ap₂, _∙_}
+use mathlib.Core.Bool.{Bool, true, false, not, _&&_, _||_}
+use Prim.Native.Nat.{ℕ, zero, _+_, _-_, _<_}
+use native.Mathlib.Numerals.{add-one}
+use native.Mathlib.Omega.{arith}
+use native.Mathlib.Decide.{ℕ-discrete}
+use lib.Bits.{bitOr, bitAnd, or-add-and, and-le-l, and-le-r}
+use lib.Dec.{ltb, eqb}
+use borrow.Author.Tests.{ltb-true, ltb-false, eq-eqb, ne-eqb}
+use Rattle.base.specs.Tests.{both, both-l, both-r, both-i}
+use Rattle.base.specs.Search.{every, every-true, every-intro, some}
+
+-- two tests that pass together are the same
+pub same : (a b : Bool) → (a ≡ true → b ≡ true) → (b ≡ true → a ≡ true) → a ≡ b
+same true b f g = sym (f refl)
+same false true f g = g refl
+same false false f g = refl
+
+pub and-swap : (a b : Bool) → (a && b) ≡ (b && a)
+and-swap true true = refl
+and-swap true false = refl
+and-swap false true = refl
+and-swap false false = refl
+
+pub and-false : (a : Bool) → (a && false) ≡ false
+and-false true = refl
+and-false false = refl
+
+-- ---- a loop that gathers: none yet, one test more, the end
+pub every-none : (f : ℕ → Bool) → true ≡ every 0 f
+unfolding every
+every-none f = refl
+
+pub every-next : (f : ℕ → Bool) (i : ℕ) → every (i + 1) f ≡ (f i && every i f)
+unfolding every
+every-next f i = ap (λ (n : ℕ). every n f) (add-one i) ∙ go (f i)
+  where
+    go : (b : Bool) → elim b [ true ↦ every i f | false ↦ false ] ≡ (b && every i f)
+    go true = refl
+    go false = refl
+
+pub gathers : (f : ℕ → Bool) (i : ℕ) (ok t : Bool) → ok ≡ every i f → t ≡ f i → (ok && t) ≡ every (i + 1) f
+gathers f i ok t e h = ap₂ both e h ∙ and-swap (every i f) (f i) ∙ sym (every-next f i)
+
+pub gathered : (f : ℕ → Bool) (i n : ℕ) {ok : Bool} → ok ≡ every i f → i ≡ n → ok ≡ every n f
+gathered f i n e l = e ∙ ap (λ (k : ℕ). every k f) l
+
+-- ---- all below n + k, in two parts
+pub every-split : (n k : ℕ) (f : ℕ → Bool) → every (n + k) f ≡ (every n f && every k (λ i. f (n + i)))
+every-split n k f =
+    same (every (n + k) f) (both (every n f) (every k (λ i. f (n + i))))
+    (λ e. both-i (every n f) (every k (λ i. f (n + i)))
+    (every-intro n f (λ i l. every-true (n + k) f e i (omega arith)))
+    (every-intro k (λ i. f (n + i)) (λ i l. every-true (n + k) f e (n + i) (omega arith))))
+    (λ e. every-intro (n + k) f (λ i l. go e i l (ltb i n) refl))
+  where
+    go : both (every n f) (every k (λ i. f (n + i))) ≡ true → (i : ℕ) → i < n + k
+        → (b : Bool) → ltb i n ≡ b → f i ≡ true
+    go e i l true q = every-true n f (both-l (every n f) (every k (λ i. f (n + i))) e) i (ltb-true i n q)
+    go e i l false q =
+        let m = ltb-false i n q in
+        let z : n + (i - n) ≡ i = omega arith in
+        ap f (sym z)
+        ∙ every-true k (λ i. f (n + i)) (both-r (every n f) (every k (λ i. f (n + i))) e) (i - n)
+        (omega arith)
+
+-- one of 0, .., i passes
+pub some-next : (f : ℕ → Bool) (i : ℕ) → some (i + 1) f ≡ (some i f || f i)
+unfolding some
+some-next f i = ap not (every-next (λ j. not (f j)) i) ∙ go (f i) (every i (λ j. not (f j)))
+  where
+    go : (a b : Bool) → not (not a && b) ≡ (not b || a)
+    go true true = refl
+    go true false = refl
+    go false true = refl
+    go false false = refl
+
+pub some-none : (f : ℕ → Bool) → some 0 f ≡ false
+unfolding some every
+some-none f = refl
+
+-- a bitwise or is zero exactly where both are
+pub or-zero : (x y : ℕ) → eqb (bitOr x y) 0 ≡ (eqb y 0 && eqb x 0)
+or-zero x y = go (ℕ-discrete x 0) (ℕ-discrete y 0)
+  where
+    sum : bitOr x y + bitAnd x y ≡ x + y
+    sum = or-add-and x y
+
+    go : Dec (x ≡ 0) → Dec (y ≡ 0) → eqb (bitOr x y) 0 ≡ (eqb y 0 && eqb x 0)
+    go (yes p) (yes q) = rw (eq-eqb y 0 q, eq-eqb x 0 p) (eq-eqb (bitOr x y) 0 (omega (arith, sum)))
+    go d (no q) = rw (ne-eqb y 0 q) (ne-eqb (bitOr x y) 0 (λ e. omega (arith, sum, and-le-l x y)))
+    go (no p) (yes q) =
+        rw (eq-eqb y 0 q, ne-eqb x 0 p) (ne-eqb (bitOr x y) 0 (λ e. omega (arith, sum, and-le-r x y)))

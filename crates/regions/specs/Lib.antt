@@ -1,0 +1,4 @@
+pub mod Runs
+pub mod Rows
+pub mod Letters
+pub mod Nexts

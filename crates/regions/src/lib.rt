@@ -1,0 +1,110 @@
+// Tests over the regions of a world whose words rest on other words: held flags and marks, letters, next.
+ghost use mathlib.Core.Path.{_≡_};
+ghost use Prim.Native.Nat.{_+_, _≤_, _<_};
+ghost use lib.ListN.{length};
+ghost use Rattle.world.specs.World.{view};
+ghost use Rattle.limits.specs.Addressees.{Addressees};
+ghost use Rattle.regions.specs.Rows.{Block, row-ok, rows-fine};
+ghost use Rattle.regions.specs.Letters.{letter-ok, letters-at};
+ghost use Rattle.regions.specs.Nexts.{Countable, Counted, Small, next-of, nexts-at};
+
+// Whether process p may have this held flag and these marks for a message with these addressees.
+fn row(held: u16, marks: u16, to: u16, p: usize) -> bool
+    requires { ⌜ p < 16 ⌝ }
+    ensures { λ r. ⌜ r ≡ row-ok held marks to p ⌝ }
+{
+    if masks::test(to, p) {
+        return (held <= 1) & (marks & to == marks);
+    }
+    (held == 0) & (marks == 0)
+}
+
+// Whether the held flags and the marks of process p are only for messages addressed to it, the marks only from
+// addressees.
+pub fn rows(w: &[u16], p: usize, addressees: &[u16]) -> bool
+    requires { ⌜ Block (now w) p ⌝ }
+    requires { ⌜ Addressees (view (now w)) (now addressees) ⌝ }
+    ensures { λ r. ⌜ r ≡ rows-fine (view (now (w .entry))) p ⌝ }
+{
+    let at = cells::PROCESSES + p * cells::PROCESS;
+    let mut ok = true;
+    let mut m: usize = 0;
+    while m < 64 {
+        ok = ok
+            & row(
+                w[at + cells::HELD + m],
+                w[at + cells::MARKS + m],
+                addressees[m],
+                p,
+            );
+        m += 1;
+    }
+    ok
+}
+
+// Whether letters from q may be in flight to these receivers.
+fn letter(receivers: u16, origins: u16, to: u16, q: usize) -> bool
+    requires { ⌜ q < 16 ⌝ }
+    ensures { λ r. ⌜ r ≡ letter-ok receivers origins to q ⌝ }
+{
+    if masks::test(origins, q) {
+        return receivers & to == receivers;
+    }
+    receivers == 0
+}
+
+// Whether the 16 masks of receivers from a on are only for the origins, and only among the addressees.
+pub fn letters(w: &[u16], a: usize, origins: u16, to: u16) -> bool
+    requires { ⌜ a + 16 ≤ length (now w) ⌝ }
+    ensures { λ r. ⌜ r ≡ letters-at (now (w .entry)) a origins to ⌝ }
+{
+    let mut ok = true;
+    let mut q: usize = 0;
+    while q < 16 {
+        ok = ok & letter(w[a + q], origins, to, q);
+        q += 1;
+    }
+    ok
+}
+
+// How many of the n items of a log, from a on, are of each sender; the items are below count.
+pub fn senders(w: &[u16], a: usize, n: usize, count: usize) -> [u16; 16]
+    requires { ⌜ Countable (now w) a n count ⌝ }
+    ensures { λ r. ⌜ Counted (now (w .entry)) a n r ⌝ }
+{
+    let mut t: [u16; 16] = [0; 16];
+    let mut i: usize = 0;
+    while i < n {
+        let m = cells::word(w, a + i);
+        let q = cells::word(w, cells::MESSAGES + m * cells::MESSAGE);
+        t[q] = t[q] + 1;
+        i += 1;
+    }
+    t
+}
+
+// What next[q] must be where x messages of q are in the log.
+fn expected(x: u16, n: usize, q: usize) -> u16
+    requires { ⌜ x ≤ 64 ⌝ }
+    ensures { λ r. ⌜ r ≡ next-of x n q ⌝ }
+{
+    if q < n {
+        return x + 1;
+    }
+    0
+}
+
+// Whether each of the 16 words from a on is next for what was counted, and zero from n on.
+pub fn nexts(w: &[u16], a: usize, n: usize, t: &[u16]) -> bool
+    requires { ⌜ a + 16 ≤ length (now w) ⌝ }
+    requires { ⌜ Small (now t) ⌝ }
+    ensures { λ r. ⌜ r ≡ nexts-at (now (w .entry)) a n (now (t .entry)) ⌝ }
+{
+    let mut ok = true;
+    let mut q: usize = 0;
+    while q < 16 {
+        ok = ok & (w[a + q] == expected(t[q], n, q));
+        q += 1;
+    }
+    ok
+}

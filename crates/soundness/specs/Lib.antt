@@ -1,0 +1,2 @@
+pub mod Absent
+pub mod Whole
