@@ -1,0 +1,62 @@
+// FIFO deliveries, and the cascade: while some message is ready, the lowest is delivered.
+ghost use mathlib.Core.Path.{_≡_};
+ghost use Prim.Native.Nat.{_+_, _≤_, _<_};
+ghost use lib.ListN.{length};
+ghost use Rattle.world.specs.World.{count, fifo-length, next, view, Changes};
+ghost use Rattle.world.specs.Machine.{appended, raised-next, fifo-one, cascade};
+ghost use Rattle.bounds.specs.Bounds.{Bounds};
+
+// Message m appended to p's FIFO log.
+pub fn append(w: &mut [u16], p: usize, m: usize)
+    requires { ⌜ (length (now w) ≡ 20480) × (p < 16) × (m < 64) × (view (now w) (fifo-length p) < 64) ⌝ }
+    ensures { λ _. ⌜ (length (now (w .exit)) ≡ 20480) × Changes (now (w .entry)) (now (w .exit)) (λ s. appended s p m) ⌝ }
+{
+    let n = cells::word(
+        w,
+        cells::PROCESSES + p * cells::PROCESS + cells::FIFO_LENGTH,
+    );
+    w[cells::PROCESSES + p * cells::PROCESS + cells::FIFO + n] = m as u16;
+    w[cells::PROCESSES + p * cells::PROCESS + cells::FIFO_LENGTH] = (n + 1) as u16;
+}
+
+// What p expects of q next rises by 1.
+pub fn raise_next(w: &mut [u16], p: usize, q: usize)
+    requires { ⌜ (length (now w) ≡ 20480) × (p < 16) × (q < 16) × (view (now w) (next p q) ≤ 65) ⌝ }
+    ensures { λ _. ⌜ (length (now (w .exit)) ≡ 20480) × Changes (now (w .entry)) (now (w .exit)) (λ s. raised-next s p q) ⌝ }
+{
+    let x = cells::word(w, cells::PROCESSES + p * cells::PROCESS + cells::NEXTS + q);
+    w[cells::PROCESSES + p * cells::PROCESS + cells::NEXTS + q] = (x + 1) as u16;
+}
+
+// Message m delivered in FIFO order, with what follows causally and the OKs.
+pub fn fifo_one(w: &mut [u16], p: usize, m: usize)
+    requires { ⌜ (length (now w) ≡ 20480) × (p < 16) × (m < 64) × Bounds (view (now w)) × (view (now w) (fifo-length p) < view (now w) count) ⌝ }
+    ensures { λ _. ⌜ (length (now (w .exit)) ≡ 20480) × Changes (now (w .entry)) (now (w .exit)) (λ s. fifo-one s p m) ⌝ }
+{
+    let q = cells::word(w, cells::MESSAGES + m * cells::MESSAGE);
+    append(w, p, m);
+    causal::causal_all(w, p);
+    raise_next(w, p, q);
+    sends::send_oks(w, p, q);
+}
+
+// The cascade at p.
+pub fn cascade_all(w: &mut [u16], p: usize)
+    requires { ⌜ (length (now w) ≡ 20480) × (p < 16) × Bounds (view (now w)) ⌝ }
+    ensures { λ _. ⌜ (length (now (w .exit)) ≡ 20480) × Changes (now (w .entry)) (now (w .exit)) (λ s. cascade s p) ⌝ }
+{
+    let n = cells::word(w, cells::COUNT);
+    let k = cells::word(
+        w,
+        cells::PROCESSES + p * cells::PROCESS + cells::FIFO_LENGTH,
+    );
+    let mut left: usize = n - k;
+    while 0 < left {
+        let i = ready::first_ready(w, p);
+        if n <= i {
+            return;
+        }
+        fifo_one(w, p, i);
+        left -= 1;
+    }
+}

@@ -1,0 +1,74 @@
+// The test "deliverable": whether a message of a process's FIFO log can be delivered causally.
+ghost use mathlib.Core.Path.{_≡_};
+ghost use Prim.Native.Nat.{_+_, _≤_, _<_};
+ghost use lib.ListN.{length, getD};
+ghost use Rattle.base.specs.Count.{absent};
+ghost use Rattle.base.specs.Search.{every};
+ghost use Rattle.world.specs.Machine.{fits, deliverable-at};
+ghost use Rattle.world.specs.World.{Reads, view, size, group};
+ghost use Rattle.bounds.specs.Bounds.{Bounds};
+
+// None of the n words from at on is m.
+pub fn absent_from(w: &[u16], at: usize, n: usize, m: usize) -> bool
+    requires { ⌜ at + n ≤ length (now w) ⌝ }
+    ensures { λ r. ⌜ r ≡ absent n m (λ j. getD (now (w .entry)) (at + j) 0) ⌝ }
+{
+    let mut j: usize = 0;
+    while j < n {
+        if cells::word(w, at + j) == m {
+            return false;
+        }
+        j += 1;
+    }
+    true
+}
+
+// Whether q's counter on message m lets process p of group g deliver it.
+pub fn fits_one(w: &[u16], p: usize, g: usize, m: usize, q: usize) -> bool
+    requires { ⌜ (length (now w) ≡ 20480) × (p < 16) × (g < 8) × (m < 64) × (q < 16) × (g ≡ view (now w) (group p)) ⌝ }
+    ensures { λ r. ⌜ r ≡ fits (view (now (w .entry))) p m q ⌝ }
+{
+    if cells::word(w, cells::MESSAGES + m * cells::MESSAGE) == q {
+        return true;
+    }
+    w[cells::MESSAGES + m * cells::MESSAGE + cells::STAMPS + (g * 16 + q)]
+        <= w[cells::PROCESSES + p * cells::PROCESS + cells::DELIVERED + q]
+}
+
+// Whether message m is deliverable at p: all counters on it, but for its sender's, let it.
+pub fn fits_all(w: &[u16], p: usize, m: usize) -> bool
+    requires { ⌜ (length (now w) ≡ 20480) × (p < 16) × (m < 64) × Bounds (view (now w)) ⌝ }
+    ensures { λ r. ⌜ r ≡ every (view (now (w .entry)) size) (fits (view (now (w .entry))) p m) ⌝ }
+{
+    let n = cells::word(w, cells::SIZE);
+    let g = cells::word(w, cells::PROCESSES + p * cells::PROCESS);
+    let mut q: usize = 0;
+    while q < n {
+        if !fits_one(w, p, g, m, q) {
+            return false;
+        }
+        q += 1;
+    }
+    true
+}
+
+// Whether item i of p's FIFO log is outside the causal log and deliverable.
+pub fn can_deliver(w: &[u16], p: usize, i: usize) -> bool
+    requires { ⌜ (length (now w) ≡ 20480) × (p < 16) × (i < 64) × Bounds (view (now w)) ⌝ }
+    ensures { λ r. ⌜ Reads (now (w .entry)) r (λ s. deliverable-at s p i) ⌝ }
+{
+    let m = cells::word(w, cells::PROCESSES + p * cells::PROCESS + cells::FIFO + i);
+    let n = cells::word(
+        w,
+        cells::PROCESSES + p * cells::PROCESS + cells::CAUSAL_LENGTH,
+    );
+    if absent_from(
+        w,
+        cells::PROCESSES + p * cells::PROCESS + cells::CAUSAL,
+        n,
+        m,
+    ) {
+        return fits_all(w, p, m);
+    }
+    false
+}

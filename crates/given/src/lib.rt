@@ -1,0 +1,143 @@
+// A step as it is given, 8 bytes, read: kind, operands, zeros.
+ghost use mathlib.Core.Path.{_≡_};
+ghost use Prim.Native.Nat.{_≤_, _<_};
+ghost use lib.ListN.{length, getD};
+ghost use Rattle.world.specs.Steps.{zeros-from, read};
+ghost use Rattle.given.specs.Given.{step-of, letter-good};
+
+// What the bytes ask for. A letter is its kind, its message, from whom and to whom.
+pub enum Given {
+    Multicast(usize, u16),
+    Arrival(usize, usize, usize, usize),
+    Loss(usize, usize, usize, usize),
+    Trust(usize, u16),
+    Crash(usize),
+    Malformed,
+}
+
+// A byte as a number of the machine's width.
+fn wide(x: u8) -> usize
+    ensures { λ r. ⌜ (r ≡ x) × (r < 256) ⌝ }
+{
+    x as usize
+}
+
+// Byte i.
+fn byte(bytes: &[u8], i: usize) -> usize
+    requires { ⌜ i < length (now bytes) ⌝ }
+    ensures { λ r. ⌜ (r ≡ getD (now (bytes .entry)) i 0) × (r < 256) ⌝ }
+{
+    wide(bytes[i])
+}
+
+// Whether the bytes from i on are zero.
+fn zeros(bytes: &[u8], i: usize) -> bool
+    requires { ⌜ (length (now bytes) ≡ 8) × (i ≤ 8) ⌝ }
+    ensures { λ r. ⌜ r ≡ zeros-from (now (bytes .entry)) i ⌝ }
+{
+    let mut j: usize = i;
+    while j < 8 {
+        if bytes[j] != 0 {
+            return false;
+        }
+        j += 1;
+    }
+    true
+}
+
+// Whether the bytes of an arrival or a loss are well formed: the letter's kind is one, and the rest is zero.
+fn letter(bytes: &[u8]) -> bool
+    requires { ⌜ length (now bytes) ≡ 8 ⌝ }
+    ensures { λ r. ⌜ r ≡ letter-good (now (bytes .entry)) ⌝ }
+{
+    if 2 < byte(bytes, 1) {
+        return false;
+    }
+    zeros(bytes, 5)
+}
+
+// The step of bytes whose kind is that of a multicast.
+fn multicast(bytes: &[u8]) -> Given
+    requires { ⌜ (length (now bytes) ≡ 8) × (getD (now bytes) 0 0 ≡ 1) ⌝ }
+    ensures { λ r. ⌜ step-of r ≡ read (now (bytes .entry)) ⌝ }
+{
+    if zeros(bytes, 3) {
+        return Given::Multicast(byte(bytes, 1), byte(bytes, 2) as u16);
+    }
+    Given::Malformed
+}
+
+// The step of bytes whose kind is that of an arrival.
+fn arrival(bytes: &[u8]) -> Given
+    requires { ⌜ (length (now bytes) ≡ 8) × (getD (now bytes) 0 0 ≡ 2) ⌝ }
+    ensures { λ r. ⌜ step-of r ≡ read (now (bytes .entry)) ⌝ }
+{
+    if letter(bytes) {
+        return Given::Arrival(
+            byte(bytes, 1),
+            byte(bytes, 2),
+            byte(bytes, 3),
+            byte(bytes, 4),
+        );
+    }
+    Given::Malformed
+}
+
+// The step of bytes whose kind is that of a loss.
+fn loss(bytes: &[u8]) -> Given
+    requires { ⌜ (length (now bytes) ≡ 8) × (getD (now bytes) 0 0 ≡ 3) ⌝ }
+    ensures { λ r. ⌜ step-of r ≡ read (now (bytes .entry)) ⌝ }
+{
+    if letter(bytes) {
+        return Given::Loss(
+            byte(bytes, 1),
+            byte(bytes, 2),
+            byte(bytes, 3),
+            byte(bytes, 4),
+        );
+    }
+    Given::Malformed
+}
+
+// The step of bytes whose kind is that of a trust step.
+fn trust(bytes: &[u8]) -> Given
+    requires { ⌜ (length (now bytes) ≡ 8) × (getD (now bytes) 0 0 ≡ 4) ⌝ }
+    ensures { λ r. ⌜ step-of r ≡ read (now (bytes .entry)) ⌝ }
+{
+    if zeros(bytes, 4) {
+        return Given::Trust(
+            byte(bytes, 1),
+            (byte(bytes, 2) + byte(bytes, 3) * 256) as u16,
+        );
+    }
+    Given::Malformed
+}
+
+// The step of bytes whose kind is that of a crash.
+fn crash(bytes: &[u8]) -> Given
+    requires { ⌜ (length (now bytes) ≡ 8) × (getD (now bytes) 0 0 ≡ 5) ⌝ }
+    ensures { λ r. ⌜ step-of r ≡ read (now (bytes .entry)) ⌝ }
+{
+    if zeros(bytes, 2) {
+        return Given::Crash(byte(bytes, 1));
+    }
+    Given::Malformed
+}
+
+// The step that the bytes ask for.
+pub fn take(bytes: &[u8]) -> Given
+    ensures { λ r. ⌜ step-of r ≡ read (now (bytes .entry)) ⌝ }
+{
+    if bytes.len() != 8 {
+        return Given::Malformed;
+    }
+    let k = byte(bytes, 0);
+    match k {
+        1 => multicast(bytes),
+        2 => arrival(bytes),
+        3 => loss(bytes),
+        4 => trust(bytes),
+        5 => crash(bytes),
+        _ => Given::Malformed,
+    }
+}

@@ -1,0 +1,86 @@
+// The multicast of a message by process p to the groups of a mask: p's counters and sequence counts rise,
+// are then copied onto the message, the message is numbered, and first letters go in flight.
+ghost use mathlib.Core.Path.{_≡_};
+ghost use Prim.Native.Nat.{_<_};
+ghost use lib.ListN.{length};
+ghost use Rattle.base.specs.Bits.{bit};
+ghost use Rattle.base.specs.Tests.{pick};
+ghost use Rattle.world.specs.World.{count, view, encode, Changes};
+ghost use Rattle.world.specs.Machine.{numbered, multicast};
+ghost use Rattle.bounds.specs.Bounds.{Bounds};
+ghost use Rattle.multicasts.specs.Raise.{Below, raised-one, raised-below, Low};
+ghost use Rattle.multicasts.specs.Multicast.{with-stamps, with-copy};
+
+// The record of p with C[g][p] and b[g] raised, if the mask has g.
+fn raise_one(r: records::Process, p: usize, g: usize, groups: u16) -> records::Process
+    requires { ⌜ (p < 16) × (g < 8) × Below 60000 (r .counters) × Below 60000 (r .sequences) ⌝ }
+    ensures { λ q. ⌜ q ≡ pick (bit groups g) (raised-one r p g) r ⌝ }
+{
+    if masks::test(groups, g) {
+        let mut q = r;
+        let x = q.counters[g * 16 + p];
+        q.counters[g * 16 + p] = x + 1;
+        let y = q.sequences[g];
+        q.sequences[g] = y + 1;
+        return q;
+    }
+    r
+}
+
+// The record of p with C[g][p] and b[g] raised for every group g of the mask.
+fn raise_all(r: records::Process, p: usize, groups: u16) -> records::Process
+    requires { ⌜ (p < 16) × Below 1000 (r .counters) × Below 1000 (r .sequences) ⌝ }
+    ensures { λ q. ⌜ q ≡ raised-below 8 p groups r ⌝ }
+{
+    let mut q = r;
+    let mut g: usize = 0;
+    while g < 8 {
+        q = raise_one(q, p, g, groups);
+        g += 1;
+    }
+    q
+}
+
+// Copies the counters and sequence counts of a record onto message m as C and s.
+fn stamp(w: &mut [u16], m: usize, r: records::Process)
+    requires { ⌜ (length (now w) ≡ 20480) × (m < 64) ⌝ }
+    ensures { λ _. ⌜ (length (now (w .exit)) ≡ 20480) × Changes (now (w .entry)) (now (w .exit)) (λ s. with-stamps s m r) ⌝ }
+{
+    let c = r.counters;
+    cells::put(w, cells::MESSAGES + m * cells::MESSAGE + cells::STAMPS, &c);
+    let b = r.sequences;
+    cells::put(w, cells::MESSAGES + m * cells::MESSAGE + cells::NUMBERS, &b);
+}
+
+// Raises what p counts of the groups of the mask, and only then copies it onto message m.
+fn raise(w: &mut [u16], p: usize, groups: u16, m: usize)
+    requires { ⌜ (length (now w) ≡ 20480) × (p < 16) × (m < 64) × Low (view (now w)) p ⌝ }
+    ensures { λ _. ⌜ (length (now (w .exit)) ≡ 20480) × Changes (now (w .entry)) (now (w .exit)) (λ s. with-copy s p groups m) ⌝ }
+{
+    let r = records::load(w, p);
+    let q = raise_all(r, p, groups);
+    records::store(w, p, q);
+    stamp(w, m, q);
+}
+
+// The next message is p's, to the groups of the mask.
+fn enter(w: &mut [u16], p: usize, groups: u16)
+    requires { ⌜ (length (now w) ≡ 20480) × (p < 16) × (view (now w) count < 64) ⌝ }
+    ensures { λ _. ⌜ (length (now (w .exit)) ≡ 20480) × Changes (now (w .entry)) (now (w .exit)) (λ s. numbered s p groups) ⌝ }
+{
+    let m = cells::word(w, cells::COUNT);
+    w[cells::MESSAGES + m * cells::MESSAGE] = p as u16;
+    w[cells::MESSAGES + m * cells::MESSAGE + cells::MASK] = groups;
+    w[cells::COUNT] = (m + 1) as u16;
+}
+
+// The whole multicast.
+pub fn send_new(w: &mut [u16], p: usize, groups: u16)
+    requires { ⌜ (length (now w) ≡ 20480) × (p < 16) × (view (now w) count < 64) × Bounds (view (now w)) × Low (view (now w)) p ⌝ }
+    ensures { λ _. ⌜ now (w .exit) ≡ encode (multicast (view (now (w .entry))) p groups) ⌝ }
+{
+    let m = cells::word(w, cells::COUNT);
+    raise(w, p, groups, m);
+    enter(w, p, groups);
+    sends::send(w, p, m, 0);
+}

@@ -1,0 +1,81 @@
+-- `ready::first_ready` meets its contract. The loop's invariant: the first ready message from i on is the
+-- first of all. Assumes nothing.
+use mathlib.Core.Path.{_≡_, sym, _∙_}
+use Prim.Native.Nat.{_-_, _≤_}
+use native.Mathlib.Omega.{arith}
+use borrow.Author.Needs.{needs}
+use native.Mathlib.Nat.{sub-zero}
+use Rattle.base.specs.Search.{first-from, first-skip, first-hit, first-end}
+use Rattle.world.specs.Layout.{reads-cell}
+use Rattle.world.specs.Machine.{ready}
+use Rattle.world.specs.World.{State, encode, count}
+use Rattle.ready.specs.Ready.{lowest-is}
+use Rattle.ready.proofs.first_ready.Statement.{statement}
+use Rattle.ready.proofs.first_ready.Tie as tie
+
+abbrev Inv-loop : tie.InvT-loop
+Inv-loop w p n i₀ i =
+    (i ≤ n) × ((s : State) → w ≡ encode s → first-from n 0 (ready s p) ≡ first-from (n - i) i (ready s p))
+
+abbrev μ-loop : tie.MeasureT-loop
+μ-loop w p n i₀ i = n - i
+
+word-requires : tie.Need-word-requires Inv-loop μ-loop
+word-requires c κs = search needs
+
+loop-holds : tie.Need-loop-holds Inv-loop μ-loop
+loop-holds c = (omega arith, λ s e. rw (sub-zero (c .word .result)))
+
+is-ready-requires : tie.Need-is-ready-requires Inv-loop μ-loop
+is-ready-requires c κs =
+    let b = c .before .before .before .before in
+    (b .pre .0, b .pre .1, omega (arith, c .before .before .word .ensures, b .pre .2 .counts), b .pre .2)
+
+returns : tie.Need-returns Inv-loop μ-loop
+returns c s e =
+    let a = c .before .before .before .before .before .before .args in
+    let l = c .before .before .before .loop in
+    let n = c .before .before .before .before .word in
+    lowest-is (a .p) s (n .ensures ∙ reads-cell (a .w .now) count tt s e)
+    (sym (l .inv .1 s e ∙ first-hit (ready s (a .p)) (n .result) (l .i) (omega arith)
+    (sym (c .before .is-ready .ensures s e) ∙ c .if1 .taken)))
+
+add-i : tie.Need-add-i Inv-loop μ-loop
+add-i c = search needs
+
+loop-less : tie.Need-loop-less Inv-loop μ-loop
+loop-less c = search needs
+
+loop-again : tie.Need-loop-again Inv-loop μ-loop
+loop-again c =
+    let a = c .before .before .before .before .before .before .args in
+    let l = c .before .before .before .loop in
+    let n = c .before .before .before .before .word in (
+      omega arith,
+      λ s e. l .inv .1 s e
+          ∙ first-skip (ready s (a .p)) (n .result) (l .i) (omega arith)
+          (sym (c .before .is-ready .ensures s e) ∙ c .if1 .left),
+    )
+
+returns-2 : tie.Need-returns-2 Inv-loop μ-loop
+returns-2 c s e =
+    let a = c .before .before .before .before .args in
+    let l = c .before .loop in
+    let n = c .before .before .word in
+    lowest-is (a .p) s (n .ensures ∙ reads-cell (a .w .now) count tt s e)
+    (sym (l .inv .1 s e ∙ first-end (ready s (a .p)) (n .result) (l .i) (omega arith)))
+
+pub first-ready-spec : {M : Type 1} → statement M
+first-ready-spec =
+    tie.close
+    (tie.spec
+    Inv-loop
+    μ-loop
+    word-requires
+    loop-holds
+    is-ready-requires
+    returns
+    add-i
+    loop-less
+    loop-again
+    returns-2)

@@ -1,0 +1,26 @@
+-- The trust step and the crash on words. Assumes nothing.
+use mathlib.Core.Path.{_≡_, sym}
+use mathlib.Core.List.{List}
+use Prim.Native.Nat.{ℕ, _<_}
+use lib.ListN.{length, set}
+use Rattle.bounds.specs.Bounds.{Bounds, bounds-stored}
+use Rattle.world.specs.World.{trust, up, addr, put, encode, view, Changes}
+use Rattle.world.specs.Layout.{encode-view, changes-put, changes-own}
+use Rattle.world.specs.Machine.{cascade, trust-set, crash}
+
+-- the words with another trust set keep the bounds
+pub bounds-trust : (w : List ℕ) (p v : ℕ) → length w ≡ 20480 → p < 16 → Bounds (view w)
+    → Bounds (view (set w (addr (trust p)) v))
+unfolding put
+bounds-trust w p v l hp h = bounds-stored w (trust p) v l hp h
+
+-- the store, then the cascade
+pub trust-law : (w u : List ℕ) (p v : ℕ) → length w ≡ 20480 → p < 16
+    → Changes (set w (addr (trust p)) v) u (λ s. cascade s p) → u ≡ encode (trust-set (view w) p v)
+unfolding trust-set
+trust-law w u p v l hp c = c _ (changes-put w (trust p) v hp (view w) (sym (encode-view w l)))
+
+pub crash-law : (w : List ℕ) (p : ℕ) → length w ≡ 20480 → p < 16
+    → set w (addr (up p)) 0 ≡ encode (crash (view w) p)
+unfolding crash
+crash-law w p l hp = changes-own w (set w (addr (up p)) 0) (λ s. put s (up p) 0) l (changes-put w (up p) 0 hp)

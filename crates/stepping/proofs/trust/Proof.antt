@@ -1,0 +1,67 @@
+-- `stepping::trust` meets its contract: what the refusal says decides. Assumes nothing.
+use mathlib.Core.Path.{sym, _∙_}
+use Rattle.world.specs.World.{view}
+use Rattle.world.specs.Steps.{trusts, step}
+use Rattle.bounds.specs.Bounds.{sound-bounds}
+use Rattle.stepping.specs.Stepping.{taken-zero, refused-number, words-taken, words-refused, can-trust}
+use borrow.Author.Needs.{needs}
+use Rattle.stepping.proofs.trust.Statement.{statement}
+use Rattle.stepping.proofs.trust.Tie as tie
+
+of-trust-requires : tie.Need-of-trust-requires
+of-trust-requires c κs =
+    let b = c .before .before in
+    (b .pre .0, sound-bounds (view (b .args .w .now)) (b .pre .1))
+
+enum-known-r : tie.Need-enum-known-r
+enum-known-r c = search needs
+
+enum-told : tie.Need-enum-told
+enum-told c = search needs
+
+replace-trust-requires : tie.Need-replace-trust-requires
+replace-trust-requires c κs =
+    let t = c .before in
+    let k = t .before .before in
+    let b = k .before .before .before in
+    let a = b .args in
+    can-trust (a .w .now) (b .pre .0) (b .pre .1) (a .p) (a .set)
+    (taken-zero (sym (t .enum-told .given .1)) (k .of-trust .ensures))
+
+same-length : tie.Need-same-length
+same-length c = search needs
+
+returns : tie.Need-returns
+returns c =
+    let x = c .before .r .given in
+    let k = c .before .before .before in
+    let b = k .before .before .before in
+    let a = b .args in
+    let e = refused-number (x .0 .0) (sym (x .1)) (k .of-trust .ensures) in
+    (e, words-refused (a .w .now) (trusts (a .p) (a .set)) (x .0 .0) (b .pre .0) e)
+
+same-length-2 : tie.Need-same-length-2
+same-length-2 c = search needs
+
+returns-2 : tie.Need-returns-2
+unfolding step
+returns-2 c =
+    let o = c .before .before in
+    let t = o .before .before in
+    let k = t .before .before in
+    let a = k .before .before .before .args in
+    let e = taken-zero (sym (t .enum-told .given .1)) (k .of-trust .ensures) in
+    (sym e, o .replace-trust .ensures ∙ words-taken (a .w .now) (trusts (a .p) (a .set)) e)
+
+pub trust-spec : {M : Type 1} → statement M
+trust-spec =
+    tie.close
+    (tie.spec
+    of-trust-requires
+    enum-known-r
+    enum-told
+    replace-trust-requires
+    same-length
+    returns
+    same-length-2
+    returns-2)

@@ -1,0 +1,94 @@
+-- What a taken step may lean on in a sound world, and the words after a step that is taken or refused.
+-- Assumes nothing.
+use mathlib.Core.Path.{_≡_, refl, sym, ap, _∙_}
+use mathlib.Core.Bool.{Bool}
+use mathlib.Core.List.{List}
+use Prim.Native.Nat.{ℕ, _<_}
+use native.Mathlib.Omega.{arith}
+use borrow.Author.Tests.{eq-eqb, ne-eqb}
+use lib.ListN.{length}
+use Rattle.base.specs.Tests.{pick}
+use Rattle.world.specs.World.{size, count, State, encode, view}
+use Rattle.world.specs.Layout.{encode-view}
+use Rattle.world.specs.Sound.{Sound}
+use Rattle.world.specs.SoundLaws.{size-high, count-high}
+use Rattle.world.specs.Steps.{Step, multicasts, arrives, loses, trusts, crashes, malformed, refusal, step, after}
+use Rattle.world.specs.StepLaws.{accepted-multicast, accepted-arrival, accepted-loss, accepted-trust, accepted-crash}
+use Rattle.world.specs.Answers.{refusal-number, outcome-number}
+use Rattle.world.specs.declared.Refusal.{Refusal}
+use Rattle.world.specs.declared.Refusal.the-variants.{Malformed}
+use Rattle.world.specs.declared.Outcome.{Outcome}
+use Rattle.world.specs.declared.Outcome.the-variants.{Taken, Refused}
+use Rattle.bounds.specs.Bounds.{Bounds, sound-bounds}
+use Rattle.refusals.specs.Refused.{refusal-some}
+use Rattle.multicasts.specs.Raise.{Low}
+use Rattle.multicasts.specs.Multicast.{sound-low}
+
+-- ---- the answer
+pub taken-zero : {o : Outcome} {n : ℕ} → Taken ≡ o → outcome-number o ≡ n → n ≡ 0
+taken-zero e h = sym (ap outcome-number e ∙ h)
+
+pub refused-number : {o : Outcome} {n : ℕ} (r : Refusal) → Refused r ≡ o → outcome-number o ≡ n
+    → refusal-number r ≡ n
+refused-number r e h = ap outcome-number e ∙ h
+
+-- ---- the words
+pub words-taken : (w : List ℕ) (x : Step) → refusal (view w) x ≡ 0
+    → encode (step (view w) x) ≡ encode (after (view w) x)
+unfolding after
+words-taken w x e =
+    sym (ap (λ (b : Bool). encode (pick b (step (view w) x) (view w))) (eq-eqb (refusal (view w) x) 0 e))
+
+pub words-refused : (w : List ℕ) (x : Step) (r : Refusal) → length w ≡ 20480
+    → refusal-number r ≡ refusal (view w) x
+    → w ≡ encode (after (view w) x)
+unfolding after
+words-refused w x r l e =
+    sym (encode-view w l)
+    ∙ sym (ap (λ (b : Bool). encode (pick b (step (view w) x) (view w)))
+    (ne-eqb (refusal (view w) x) 0 (λ z. refusal-some r (e ∙ z))))
+
+-- ---- what a taken step leans on
+module _ (w : List ℕ) (l : length w ≡ 20480) (h : Sound (view w)) where
+  abbrev s : State
+  s = view w
+
+  process : (p : ℕ) → p < s size → p < 16
+  process p k = omega (arith, size-high s h)
+
+  pub can-multicast : (p groups : ℕ) → refusal s (multicasts p groups) ≡ 0
+      → (length w ≡ 20480) × (p < 16) × (s count < 64) × Bounds s × Low s p
+  can-multicast p groups e =
+      let a = accepted-multicast s p groups (eq-eqb _ 0 e) in
+      let k = process p (a .process) in
+      (l, k, a .room, sound-bounds s h, sound-low s p k h)
+
+  pub can-arrive : (k m q p : ℕ) → refusal s (arrives k m q p) ≡ 0
+      → (length w ≡ 20480) × (k < 3) × (m < 64) × (q < 16) × (p < 16) × Bounds s
+  can-arrive k m q p e =
+      let a = accepted-arrival s k m q p (eq-eqb _ 0 e) .letter in
+      let x : m < 64 = omega (arith, a .message, count-high s h) in
+      (l, a .kind, x, process q (a .from), process p (a .to), sound-bounds s h)
+
+  pub can-lose : (k m q p : ℕ) → refusal s (loses k m q p) ≡ 0
+      → (length w ≡ 20480) × (k < 3) × (m < 64) × (q < 16) × (p < 16)
+  can-lose k m q p e =
+      let a = accepted-loss s k m q p (eq-eqb _ 0 e) in
+      let x : m < 64 = omega (arith, a .message, count-high s h) in
+      (l, a .kind, x, process q (a .from), process p (a .to))
+
+  pub can-trust : (p set : ℕ) → refusal s (trusts p set) ≡ 0 → (length w ≡ 20480) × (p < 16) × Bounds s
+  can-trust p set e = (l, process p (accepted-trust s p set (eq-eqb _ 0 e) .process), sound-bounds s h)
+
+  pub can-crash : (p : ℕ) → refusal s (crashes p) ≡ 0 → (length w ≡ 20480) × (p < 16)
+  can-crash p e = (l, process p (accepted-crash s p (eq-eqb _ 0 e) .0))
+
+-- ---- what is so of a step is so of the bytes that ask for it
+pub for-bytes : {n : ℕ} {u : List ℕ} {x y : Step} (s : State) → x ≡ y
+    → (n ≡ refusal s x) × (u ≡ encode (after s x)) → (n ≡ refusal s y) × (u ≡ encode (after s y))
+for-bytes s e h = (h .0 ∙ ap (refusal s) e, h .1 ∙ ap (λ (z : Step). encode (after s z)) e)
+
+pub refused-bytes : {x : Step} (w : List ℕ) → length w ≡ 20480 → malformed ≡ x
+    → (4 ≡ refusal (view w) x) × (w ≡ encode (after (view w) x))
+unfolding refusal
+refused-bytes w l e = for-bytes (view w) e (refl, words-refused w malformed Malformed l refl)
