@@ -1,0 +1,263 @@
+-- Uniform agreement and validity of the FIFO logs, once no letter flies between two up processes and up
+-- processes trust only up processes. If a live process holds a message, every live addressee does. If all
+-- live addressees hold it and have delivered the earlier messages of its sender, it is in turn at each, each
+-- has the marks of all, and nothing is ready: so each has delivered it. What some process has delivered was
+-- marked by a live member of each group (Trusted), which holds it and has delivered the earlier ones: those
+-- are everywhere, by induction. Assumes nothing.
+use mathlib.Core.Path.{_≡_, refl, sym, ap, _∙_, subst}
+use mathlib.Core.Bool.{Bool, true, false}
+use mathlib.Core.Logic.{_⊎_, inl, inr}
+use Prim.Native.Nat.{ℕ, zero, suc, _≤_, _<_}
+use native.Mathlib.Omega.{arith}
+use native.Mathlib.Decide.{ℕ-discrete}
+use lib.Dec.{eqb}
+use borrow.Author.Tests.{eqb-true, eq-eqb}
+use Rattle.base.specs.Tests.{bool-cases, clash, strong, pick-yes, both, both-i, eqb-refl}
+use Rattle.base.specs.Count.{tally, tally-cong, in-at}
+use Rattle.base.specs.Bits.{bit}
+use Rattle.world.specs.World.{size, count, group, up, next, sender, mask, stamp, number, flight, State}
+use Rattle.world.specs.SoundLaws.{next-is}
+use Rattle.world.specs.Machine.{addressed}
+use Rattle.world.specs.Steps.{is-up}
+use Rattle.world.specs.History.{Run, Fair}
+use Rattle.effects.specs.Views.{Messages, messages}
+use Rattle.order.specs.Knowledge.{Knowledge, knowledge}
+use Rattle.order.specs.Counters.{To, of-to, of, to, Counting, sender-before, stamp-lt}
+use Rattle.order.specs.Runs.{Whole}
+use Rattle.order.specs.Order.{Fifo}
+use Rattle.effects.specs.Cascade.{Near}
+use Rattle.agreement.specs.Letters.{Held, Mark, Fly, Down, Told, is-done, from-down, to-down, flies}
+use Rattle.agreement.specs.Turns.{Vouched, vouched, Pending, delivered, not-in-turn, unmarked, Live}
+
+-- ---- the number of a message: one more than its sender's earlier ones to that group
+-- what passes only below k
+tally-below : (n k : ℕ) (f : ℕ → Bool) → k ≤ n → ((i : ℕ) → k ≤ i → i < n → f i ≡ false)
+    → tally n f ≡ tally k f
+unfolding tally
+tally-below zero k f h e = ap (λ (x : ℕ). tally x f) (let z : 0 ≡ k = omega arith in z)
+tally-below (suc n) k f h e =
+    go (ℕ-discrete k (suc n)) (λ l. tally-below n k f l (λ i a b. e i a (omega arith)))
+  where
+    go : Dec (k ≡ suc n) → (k ≤ n → tally n f ≡ tally k f) → tally (suc n) f ≡ tally k f
+    go (yes a) ih = ap (λ (x : ℕ). tally x f) (sym a)
+    go (no a) ih = rw (e n (omega arith) (omega arith)) (ih (omega arith))
+
+-- the number of m in a group of its mask
+pub number-is : {n : ℕ} {w : Messages} {k : Knowledge} (c : Counting n w k) (m g : ℕ) → m < w .total
+    → To w g m
+    → w .number m g ≡ suc (tally m (of-to w (w .sender m) g))
+unfolding tally
+number-is {n} {w} {k} c m g h t =
+    let q : ℕ = w .sender m in
+    let f : ℕ → Bool = λ x. both (k .before m x) (of-to w q g x) in
+    let cut = tally-below (w .total) (suc m) f h (λ i a b. above i a (bool-cases (k .before m i))) in
+    let top : f m ≡ true = both-i (k .before m m) (of-to w q g m) (c .closed .before-self m h)
+    (both-i (eqb q q) (bit (w .mask m) g) (eqb-refl q) t) in
+    let low = tally-cong m f (of-to w q g) (λ x l. mine x l (of-to w q g x) refl) in
+    c .numbers m g h ∙ c .stamps m g q h ∙ cut ∙ pick-yes (suc (tally m f)) (tally m f) top ∙ ap suc low
+  where
+    above : (i : ℕ) → suc m ≤ i → (k .before m i ≡ true) ⊎ (k .before m i ≡ false)
+        → both (k .before m i) (of-to w (w .sender m) g i) ≡ false
+    above i a (inl e) = absurd (omega (arith, c .closed .before-le m i e))
+    above i a (inr e) = rw e
+
+    mine : (x : ℕ) → x < m → (b : Bool) → of-to w (w .sender m) g x ≡ b → both (k .before m x) b ≡ b
+    mine x l true e =
+        both-i (k .before m x) true (sender-before c m x h (omega arith) (of w (w .sender m) g x e)) refl
+    mine x l false e = go (k .before m x)
+      where
+        go : (b : Bool) → both b false ≡ false
+        go true = refl
+        go false = refl
+
+-- the last below n that passes, with the count below it
+data LastCount (n : ℕ) (f : ℕ → Bool) : Type 0 where
+  no-last : tally n f ≡ 0 → LastCount n f
+  last : (x : ℕ) → x < n → f x ≡ true → tally n f ≡ suc (tally x f) → LastCount n f
+
+-- there is one, or none passes
+last-count : (n : ℕ) (f : ℕ → Bool) → LastCount n f
+unfolding tally
+last-count zero f = no-last refl
+last-count (suc n) f = go (f n) refl (last-count n f)
+  where
+    go : (b : Bool) → f n ≡ b → LastCount n f → LastCount (suc n) f
+    go true e r = last n (omega arith) e (rw e)
+    go false e (no-last z) = no-last (rw e z)
+    go false e (last x l p z) = last x (omega arith) p (rw e z)
+
+-- ---- no letter flies between two up processes
+abbrev pub Calm : State → Type 0
+Calm s =
+    (k m r u : ℕ) → k < 3 → m < s count → r < s size → u < s size → s (up r) ≡ 1 → s (up u) ≡ 1
+    → bit (s (flight m k r)) u ≡ false
+
+-- r is a process that is up
+abbrev pub Up : State → ℕ → Type 0
+Up s r = (r < s size) × (s (up r) ≡ 1)
+
+-- what some process has FIFO-delivered, and what a live process has multicast, every live addressee has
+-- FIFO-delivered
+pub record Agreed (s : State) : Type 0 where
+  pub valid : (m u : ℕ) → m < s count → s (up (s (sender m))) ≡ 1 → Up s u → addressed s m u ≡ true
+      → Fifo s u m
+  pub uniform : (m p u : ℕ) → p < s size → Fifo s p m → Up s u → addressed s m u ≡ true → Fifo s u m
+
+module _ {r : Run State} (w : Whole r) (v : Live (is-up (r .now)) (r .now)) (calm : Calm (r .now))
+    (fair : Fair (r .now)) where
+  abbrev s : State
+  s = r .now
+
+  -- what a live process told another has been done
+  heard : (k m x u : ℕ) {done : Type 0} → k < 3 → m < r .now count → Up (r .now) x → Up (r .now) u
+      → Told (Down (r .now) x) (Down (r .now) u) done (Fly (r .now) m k x u) → done
+  heard k m x u hk hm ux uu (is-done d) = d
+  heard k m x u hk hm ux uu (from-down d) = absurd (d (ux .1))
+  heard k m x u hk hm ux uu (to-down d) = absurd (d (uu .1))
+  heard k m x u hk hm ux uu (flies f) = clash f (calm k m x u hk hm (ux .0) (uu .0) (ux .1) (uu .1))
+
+  -- if a live process holds m, every live addressee does
+  spread : (m x u : ℕ) → m < r .now count → Up (r .now) x → Held (r .now) x m → Up (r .now) u
+      → addressed (r .now) m u ≡ true
+      → Held (r .now) u m
+  spread m x u hm ux h uu a = go (v .net .relayed m x u hm (ux .0) (uu .0) h a)
+    where
+      go : Told (Down (r .now) x) (Down (r .now) u) (Held (r .now) u m)
+          (Fly (r .now) m 1 x u ⊎ Fly (r .now) m 2 x u) → Held (r .now) u m
+      go (is-done d) = d
+      go (from-down d) = absurd (d (ux .1))
+      go (to-down d) = absurd (d (uu .1))
+      go (flies (inl f)) = heard 1 m x u (omega arith) hm ux uu (flies f)
+      go (flies (inr f)) = heard 2 m x u (omega arith) hm ux uu (flies f)
+
+  -- m is in the FIFO log of every live addressee
+  abbrev Everywhere : ℕ → Type 0
+  Everywhere m = (u : ℕ) → Up (r .now) u → addressed (r .now) m u ≡ true → Fifo (r .now) u m
+
+  -- every live addressee holds m, and has delivered the earlier messages of its sender
+  module _ (m : ℕ) (hm : m < r .now count)
+      (all : (u : ℕ) → Up (r .now) u → addressed (r .now) m u ≡ true → Held (r .now) u m)
+      (prior : (y u : ℕ) → y < m → r .now (sender y) ≡ r .now (sender m) → Up (r .now) u
+      → addressed (r .now) m u ≡ true
+      → addressed (r .now) y u ≡ true → Fifo (r .now) u y) where
+    -- then m is in turn at each, or past it
+    near : (u : ℕ) → Up (r .now) u → addressed (r .now) m u ≡ true → Near (r .now) m u
+    near u uu a = go (last-count m (of-to (messages (r .now)) q g))
+      where
+        q : ℕ
+        q = r .now (sender m)
+
+        g : ℕ
+        g = r .now (group u)
+
+        c : Counting (r .now size) (messages (r .now)) (knowledge (r .seen))
+        c = w .meaning .counting
+
+        at-m : r .now (number m (r .now (group u)))
+            ≡ suc (tally m (of-to (messages (r .now)) (r .now (sender m)) (r .now (group u))))
+        at-m = number-is c m g hm a
+
+        below : (y : ℕ) → Fifo (r .now) u y
+            → r .now (stamp y (r .now (group u)) (r .now (sender y))) < r .now (next u (r .now (sender y)))
+        below y (in-at i h e) =
+            subst
+            (λ (z : ℕ). r .now (stamp z (r .now (group u)) (r .now (sender z)))
+            < r .now (next u (r .now (sender z)))) e
+            (omega (arith, w .meaning .fifos u .prefix .in-below i h))
+
+        go : LastCount m (of-to (messages (r .now)) (r .now (sender m)) (r .now (group u)))
+            → Near (r .now) m u
+        go (no-last z) = omega (arith, at-m, next-is (r .now) (w .sound) u q (uu .0) (c .senders m hm))
+        go (last y ly d z) =
+            let sy = of (messages (r .now)) q g y d in
+            let ty = to (messages (r .now)) q g y d in
+            let hy : y < r .now count = omega arith in
+            let py = below y (prior y u ly sy uu a ty) in
+            omega (
+              arith,
+              at-m,
+              py,
+              number-is c y g hy ty,
+              c .numbers y g hy,
+              ap (λ (x : ℕ). r .now (next u x)) sy,
+              ap (λ (x : ℕ). tally y (of-to (messages (r .now)) x g)) sy,
+            )
+
+    -- and each has delivered it
+    everywhere : Everywhere m
+    everywhere u uu a = go (v .idle u (uu .0) m hm (all u uu a))
+      where
+        marked : (q : ℕ) → Up (r .now) q → addressed (r .now) m q ≡ true → Mark (r .now) u m q
+        marked q uq b =
+            heard 2 m q u (omega arith) hm uq uu
+            (v .net .okayed m q u hm (uq .0) (uu .0) (all q uq b) (near q uq b) a)
+
+        go : Pending (r .now) u m → Fifo (r .now) u m
+        go (delivered f) = f
+        go (not-in-turn d) =
+            w .meaning .fifos u .prefix .below-in m hm a
+            (omega (arith, near u uu a, w .meaning .counting .numbers m (r .now (group u)) hm))
+        go (unmarked q hq t b d) = clash (marked q (hq, fair u q (uu .0) hq (uu .1) t) b) d
+
+  -- what a live process multicast is everywhere
+  validity : (m : ℕ) → m < r .now count → r .now (up (r .now (sender m))) ≡ 1 → Everywhere m
+  validity = strong (λ m. m < r .now count → r .now (up (r .now (sender m))) ≡ 1 → Everywhere m)
+      (λ m ih hm us. everywhere m hm
+      (λ u uu a. heard 0 m (r .now (sender m)) u (omega arith) hm (w .meaning .counting .senders m hm, us) uu
+      (v .net .posted m u hm (uu .0) a))
+      (λ y u ly e uu a d. ih y ly (omega arith) (subst (λ (z : ℕ). r .now (up z) ≡ 1) (sym e) us) u uu d))
+
+  -- what some process has delivered is everywhere
+  agreement : (m p : ℕ) → p < r .now size → Fifo (r .now) p m → Everywhere m
+  agreement = strong (λ m. (p : ℕ) → p < r .now size → Fifo (r .now) p m → Everywhere m) one
+    where
+      one : (m : ℕ) → ((y : ℕ) → y < m → (p : ℕ) → p < r .now size → Fifo (r .now) p y → Everywhere y)
+          → (p : ℕ) → p < r .now size → Fifo (r .now) p m → Everywhere m
+      one m ih p hp f =
+          everywhere m hm (λ u uu a. holder u uu a (vouch u uu a))
+          (λ y u ly e uu a d. earlier y u ly e uu a d (vouch u uu a))
+        where
+          hm : m < r .now count
+          hm = elim f [ in-at i h e ↦ subst (λ (z : ℕ). z < r .now count) e (w .meaning .fifos p .old i h) ]
+
+          vouch : (u : ℕ) → Up (r .now) u → addressed (r .now) m u ≡ true
+              → Vouched (is-up (r .now)) (r .now) p m u
+          vouch u uu a = v .trusted p m u f (uu .0) (eq-eqb (r .now (up u)) 1 (uu .1)) a
+
+          marked-by : (x : ℕ) → x < r .now size → Mark (r .now) p m x → Held (r .now) x m × Near (r .now) m x
+          marked-by x hx z = v .net .ok-marked m x p hm hx hp z
+
+          holder : (u : ℕ) → Up (r .now) u → addressed (r .now) m u ≡ true
+              → Vouched (is-up (r .now)) (r .now) p m u → Held (r .now) u m
+          holder u uu a (vouched x hx lx gx mx) =
+              let ux : Up (r .now) x = (hx, eqb-true (r .now (up x)) 1 lx) in
+              spread m x u hm ux (marked-by x hx mx .0) uu a
+
+          earlier : (y u : ℕ) → y < m → r .now (sender y) ≡ r .now (sender m) → Up (r .now) u
+              → addressed (r .now) m u ≡ true
+              → addressed (r .now) y u ≡ true → Vouched (is-up (r .now)) (r .now) p m u → Fifo (r .now) u y
+          earlier y u ly e uu a d (vouched x hx lx gx mx) =
+              let c = w .meaning .counting in
+              let g : ℕ = r .now (group x) in
+              let hy : y < r .now count = omega (arith, hm) in
+              let am : addressed (r .now) m x ≡ true =
+              subst (λ (z : ℕ). bit (r .now (mask m)) z ≡ true) (sym gx) a in
+              let ay : addressed (r .now) y x ≡ true =
+              subst (λ (z : ℕ). bit (r .now (mask y)) z ≡ true) (sym gx) d in
+              let fy = w .meaning .fifos x .prefix .below-in y hy ay
+              (omega (
+                arith,
+                stamp-lt c m y g hm ly e am,
+                c .numbers m g hm,
+                marked-by x hx mx .1,
+                ap (λ (z : ℕ). r .now (stamp y g z)) e,
+                ap (λ (z : ℕ). r .now (next x z)) e,
+              )) in
+              ih y ly x hx fy u uu d
+
+  -- the FIFO logs agree
+  pub agrees : Agreed (r .now)
+  agrees = record {
+    valid = λ m u hm us uu a. validity m hm us u uu a;
+    uniform = λ m p u hp f uu a. agreement m p hp f u uu a;
+  }

@@ -1,0 +1,6 @@
+pub mod Letters
+pub mod Arrivals
+pub mod Turns
+pub mod Runs
+pub mod Agreement
+pub mod Once

@@ -1,0 +1,350 @@
+-- Every step of a run keeps what letters and trust tell (Live), for any set of live processes that every
+-- trust set in force names enough of. The trust rule of a list, its set put to the processes up at the end,
+-- is just such a set; a settle changes no trust set and no process's being up, so it stays one. Assumes
+-- nothing.
+use mathlib.Core.Path.{_≡_, refl, sym, ap, ap₂, _∙_, subst}
+use mathlib.Core.Bool.{Bool, true, false, not}
+use mathlib.Core.List.{List, [], _∷_}
+use mathlib.Core.Logic.{_⊎_, inl, inr, _≢_}
+use Prim.Native.Nat.{ℕ, _<_}
+use native.Mathlib.Omega.{arith}
+use native.Mathlib.Nat.{not-suc-le-zero}
+use lib.Dec.{eqb, ltb}
+use borrow.Author.Tests.{eqb-false, ltb-true}
+use Rattle.base.specs.Tests.{pick, clash, both}
+use Rattle.base.specs.Count.{In, in-at}
+use Rattle.base.specs.Bits.{bit}
+use Rattle.world.specs.World.{size, count, group, trust, up, causal-length, fifo-length, next, held, marks, fifo, mask, State, put}
+use Rattle.world.specs.Layout.{put-other}
+use Rattle.world.specs.SoundLaws.{size-high, held-facts}
+use Rattle.world.specs.Setup.{fresh, made}
+use Rattle.base.specs.Refusals.{needs}
+use Rattle.world.specs.Machine.{with-tables, cascade, raised, stamped, numbered, posted, multicast, leave, mark, arrival, trust-set, crash}
+use Rattle.world.specs.Steps.{Step, multicasts, arrives, loses, trusts, crashes, malformed, read, is-process, is-message, is-up, in-flight, refusal, accepted, step}
+use Rattle.world.specs.StepLaws.{accepted-multicast, accepted-arrival, accepted-trust, lowest-moves}
+use Rattle.world.specs.Settle.{lowest}
+use Rattle.world.specs.SettleLaws.{settle-keeps}
+use Rattle.world.specs.History.{Event, Run, Item, given, settling, on-states, taken, tick, settles, act, run, Names, names, InForce, AllAlong}
+use Rattle.effects.specs.Views.{Messages, messages, Process, process, Ground, ground, Still}
+use Rattle.effects.specs.Cascade.{cascade-still}
+use Rattle.effects.specs.Arrival.{mark-cases, hold-cases, marked-held, arrived, arrived-process, arrived-ground}
+use Rattle.effects.specs.Holding.{arrived-held, trusted-held, chosen-accepted}
+use Rattle.order.specs.Knowledge.{knowledge}
+use Rattle.order.specs.Counters.{OneMore}
+use Rattle.order.specs.Runs.{with-history, Whole, one-more, cascade-begins, whole-step, whole-act}
+use Rattle.agreement.specs.Letters.{Mark, Down, Net}
+use Rattle.agreement.specs.Arrivals.{marked-on, arrived-net, lost-net, crashed-net, trusted-net, multicast-net}
+use Rattle.agreement.specs.Turns.{Covers, Vouched, vouched, Trusted, Pending, delivered, not-in-turn, unmarked, Aside, idle-aside, Live, live-cascade}
+
+-- ---- the trust sets in force look at size, groups, trust sets and who is up
+names-same : (live : ℕ → Bool) (s t : State) (p q : ℕ) → ground t ≡ ground s → Names live s p q
+    → Names live t p q
+names-same live s t p q e (names r hr lr gr br) =
+    names r (omega (arith, ap (λ (g : Ground). g .size) e)) lr
+    (ap (λ (g : Ground). g .group r) e ∙ gr ∙ sym (ap (λ (g : Ground). g .group q) e))
+    (subst (λ (w : ℕ). bit w r ≡ true) (sym (ap (λ (g : Ground). g .trust p) e)) br)
+
+-- so they stay in force where these stay
+pub in-force-same : (live : ℕ → Bool) (s t : State) → ground t ≡ ground s → InForce live s → InForce live t
+in-force-same live s t e f p q hp hq u l =
+    names-same live s t p q e
+    (f p q (omega (arith, ap (λ (g : Ground). g .size) e)) (omega (arith, ap (λ (g : Ground). g .size) e))
+    (sym (ap (λ (g : Ground). g .up p) e) ∙ u) l)
+
+-- ---- an arrival, up to its cascade
+module _ (s : State) (k m q p : ℕ) where
+  -- a process that it is not for has no part in it
+  aside-arrived : (r : ℕ) → p ≢ r → Aside s (arrived s k m q p) r
+  unfolding put leave
+  aside-arrived r n = record {
+    own = arrived-process s k m q p r;
+    size-is = ap (λ (g : Ground). g .size) (arrived-ground s k m q p);
+    messages-is = ap (λ (g : Ground). g .messages) (arrived-ground s k m q p);
+    group-is = λ x. ap (λ (g : Ground). g .group x) (arrived-ground s k m q p);
+    trust-is = ap (λ (g : Ground). g .trust r) (arrived-ground s k m q p);
+    held-is = held-there;
+    marks-is = marks-there;
+  }
+    where
+      held-there : (x : ℕ) → arrived s k m q p (held r x) ≡ s (held r x)
+      held-there x =
+          hold-cases (λ t. t (held r x) ≡ s (held r x)) (mark (leave s k m q p) k m q p) p m
+          (λ _. marked-held s k m q p r x)
+          (λ _. put-other (mark (leave s k m q p) k m q p) (held p m) (held r x) 1 (λ e. n (cc))
+          ∙ marked-held s k m q p r x)
+
+      marks-there : (x : ℕ) → arrived s k m q p (marks r x) ≡ s (marks r x)
+      marks-there x =
+          hold-cases (λ t. t (marks r x) ≡ s (marks r x)) (mark (leave s k m q p) k m q p) p m (λ _. there)
+          (λ _. there)
+        where
+          there : mark (leave s k m q p) k m q p (marks r x) ≡ s (marks r x)
+          there = mark-cases (λ t. t (marks r x) ≡ s (marks r x)) (leave s k m q p) k m q p
+              (λ _. put-other (leave s k m q p) (marks p m) (marks r x) _ (λ e. n (cc))) (λ _. refl)
+
+  -- no mark is taken away
+  marks-on : (r x o : ℕ) → Mark s r x o → Mark (arrived s k m q p) r x o
+  unfolding put
+  marks-on r x o z =
+      hold-cases (λ t. Mark t r x o) (mark (leave s k m q p) k m q p) p m (λ _. marked-on s k m q p r x o z)
+      (λ _. marked-on s k m q p r x o z)
+
+  -- what trust gives stays
+  arrived-trusted : (live : ℕ → Bool) → Trusted live s → Trusted live (arrived s k m q p)
+  arrived-trusted live tr r x o f ho lo a =
+      let g = arrived-ground s k m q p in
+      go (tr r x o (subst (λ (v : Process). In (v .fifo-length) (v .fifo) x) (arrived-process s k m q p r) f)
+      (omega (arith, ap (λ (v : Ground). v .size) g)) lo
+      (sym (ap (λ (v : Ground). bit (v .messages .mask x) (v .group o)) g) ∙ a))
+    where
+      go : Vouched live s r x o → Vouched live (arrived s k m q p) r x o
+      go (vouched u hu lu gu mu) =
+          let g = arrived-ground s k m q p in
+          vouched u (omega (arith, ap (λ (v : Ground). v .size) g)) lu
+          (ap (λ (v : Ground). v .group u) g ∙ gu ∙ sym (ap (λ (v : Ground). v .group o) g))
+          (marks-on r x u mu)
+
+-- ---- a loss is accepted only where one end is down
+loss-needs : (s : State) (k m q p : ℕ) → accepted s (loses k m q p) ≡ true → Down s q ⊎ Down s p
+unfolding refusal
+loss-needs s k m q p e =
+    which (is-up s q) (is-up s p) refl refl
+    (go (ltb k 3) (both (is-process s q) (is-process s p)) (is-message s m) (in-flight s k m q p)
+    (not (both (is-up s q) (is-up s p))) e)
+  where
+    go : (a b c d f : Bool) → eqb (needs 4 a (needs 5 b (needs 7 c (needs 11 d (needs 12 f 0))))) 0 ≡ true
+        → f ≡ true
+    go a b c d true z = refl
+    go true true true true false z = clash {b = false} z refl
+    go true true true false false z = clash {b = false} z refl
+    go true true false d false z = clash {b = false} z refl
+    go true false c d false z = clash {b = false} z refl
+    go false b c d false z = clash {b = false} z refl
+
+    which : (a b : Bool) → is-up s q ≡ a → is-up s p ≡ b → not (both a b) ≡ true → Down s q ⊎ Down s p
+    which false b x y z = inl (eqb-false (s (up q)) 1 x)
+    which true false x y z = inr (eqb-false (s (up p)) 1 y)
+    which true true x y z = clash {b = false} z refl
+
+-- ---- every accepted step
+module _ (live : ℕ → Bool) (s : State) (es : List Event) (w : Whole (with-history s es))
+    (v : Live live s) where
+  multicast-live : (p groups : ℕ) → s count < 64 → Live live (multicast s p groups)
+  unfolding multicast posted numbered stamped raised put with-tables
+  multicast-live p groups hc = record {
+    net = multicast-net s es p groups (w .meaning) (w .sound) hc (v .net);
+    idle = λ r hr x hx h.
+        let hx′ =
+        ltb-true x (s count)
+        (held-facts s (w .sound) r x (omega (arith, size-high s (w .sound))) (omega arith)
+        (omega arith) .of) in
+        pending r x hx′ (v .idle r hr x hx′ h);
+    trusted = λ r x q f hq lq a.
+        let hx : x < s count =
+        elim f [ in-at i h e ↦ subst (λ (z : ℕ). z < s count) e (w .meaning .fifos r .old i h) ] in
+        same r x q
+        (v .trusted r x q f hq lq (subst (λ (z : ℕ). bit z (s (group q)) ≡ true) (o .old-mask x hx) a));
+  }
+    where
+      o : OneMore (messages s) (knowledge es) p groups (messages (multicast s p groups))
+      o = one-more s es p groups (w .meaning)
+
+      pending : (r x : ℕ) → x < s count → Pending s r x → Pending (multicast s p groups) r x
+      pending r x hx (delivered f) = delivered f
+      pending r x hx (not-in-turn d) =
+          not-in-turn
+          (λ e. d
+          (sym (o .old-number x (s (group r)) hx) ∙ e
+          ∙ ap (λ (z : ℕ). s (next r z)) (o .old-sender x hx)))
+      pending r x hx (unmarked q hq b a d) =
+          unmarked q hq b (subst (λ (z : ℕ). bit z (s (group q)) ≡ true) (sym (o .old-mask x hx)) a) d
+
+      same : (r x q : ℕ) → Vouched live s r x q → Vouched live (multicast s p groups) r x q
+      same r x q (vouched u hu lu gu mu) = vouched u hu lu gu mu
+
+  -- an arrival
+  arrival-live : (k m q p : ℕ) → accepted s (arrives k m q p) ≡ true → Covers live s p
+      → Live live (arrival s k m q p)
+  unfolding arrival
+  arrival-live k m q p e c =
+      let l = accepted-arrival s k m q p e .letter in
+      let g = arrived-ground s k m q p in
+      live-cascade live p (s (causal-length p)) es (arrived s k m q p) (arrived-held s (w .sound) k m q p l)
+      (cascade-begins s (arrived s k m q p) es p (l .to) (ap (λ (v : Ground). v .messages) g)
+      (ap (λ (v : Ground). v .size) g)
+      (arrived-process s k m q p) (w .meaning) (w .quiet))
+      (λ x hx lx. names-same live s (arrived s k m q p) p x g
+      (c x (omega (arith, ap (λ (v : Ground). v .size) g)) lx))
+      (arrived-net s k m q p l (w .sound) (w .meaning .fifos p)
+      (w .meaning .counting .numbers m (s (group p)) (l .message)) (v .net))
+      (arrived-trusted s k m q p live (v .trusted))
+      (λ r hr n. idle-aside s (arrived s k m q p) r (aside-arrived s k m q p r n)
+      (v .idle r (omega (arith, ap (λ (v : Ground). v .size) g))))
+
+  -- a trust step, whose new set names enough
+  trust-live : (p set : ℕ) → p < s size → Covers live (put s (trust p) set) p → Live live (trust-set s p set)
+  unfolding trust-set put
+  trust-live p set hp c =
+      live-cascade live p (s (causal-length p)) es (put s (trust p) set) (trusted-held s (w .sound) p set hp)
+      (cascade-begins s (put s (trust p) set) es p hp refl refl (λ r. refl) (w .meaning) (w .quiet)) c
+      (trusted-net s p set (v .net))
+      (λ r x q f hq lq a. same r x q (v .trusted r x q f hq lq a))
+      (λ r hr n. idle-aside s (put s (trust p) set) r (record {
+        own = refl;
+        size-is = refl;
+        messages-is = refl;
+        group-is = λ q. refl;
+        trust-is = put-other s (trust p) (trust r) set (λ e. n (cc));
+        held-is = λ m. refl;
+        marks-is = λ m. refl;
+      }) (v .idle r hr))
+    where
+      same : (r x q : ℕ) → Vouched live s r x q → Vouched live (put s (trust p) set) r x q
+      same r x q (vouched u hu lu gu mu) = vouched u hu lu gu mu
+
+  -- a letter is lost, or a process crashes: no message is delivered, and none that was held is ready now
+  plain-live : (t : State) → Net t → ((r : ℕ) → Aside s t r) → Live live t
+  plain-live t n a = record {
+    net = n;
+    idle = λ r hr. idle-aside s t r (a r) (v .idle r (omega (arith, a r .size-is)));
+    trusted = λ r x q f hq lq b. back r x q (v .trusted r x q
+        (subst (λ (o : Process). In (o .fifo-length) (o .fifo) x) (a r .own) f) (omega (arith, a r .size-is))
+        lq
+        (sym (ap₂ (λ (y : Messages) (g : ℕ). bit (y .mask x) g) (a r .messages-is) (a r .group-is q)) ∙ b));
+  }
+    where
+      back : (r x q : ℕ) → Vouched live s r x q → Vouched live t r x q
+      back r x q (vouched u hu lu gu mu) =
+          vouched u (omega (arith, a r .size-is)) lu (a r .group-is u ∙ gu ∙ sym (a r .group-is q))
+          (subst (λ (z : ℕ). bit z u ≡ true) (sym (a r .marks-is x)) mu)
+
+  -- every accepted step
+  pub live-step : (x : Step) → accepted s x ≡ true → InForce live s → InForce live (step s x)
+      → Live live (step s x)
+  unfolding step trust-set crash leave put
+  live-step (multicasts p groups) e f f′ = multicast-live p groups (accepted-multicast s p groups e .room)
+  live-step (arrives k m q p) e f f′ =
+      let a = accepted-arrival s k m q p e in
+      arrival-live k m q p e (λ x hx lx. f p x (a .letter .to) hx (a .live) lx)
+  live-step (loses k m q p) e f f′ =
+      plain-live (leave s k m q p) (lost-net s k m q p (w .sound) (loss-needs s k m q p e) (v .net)) unmoved
+    where
+      unmoved : (r : ℕ) → Aside s (leave s k m q p) r
+      unmoved r = record {
+        own = refl;
+        size-is = refl;
+        messages-is = refl;
+        group-is = λ q. refl;
+        trust-is = refl;
+        held-is = λ m. refl;
+        marks-is = λ m. refl;
+      }
+  live-step (trusts p set) e f f′ =
+      trust-live p set (accepted-trust s p set e .process)
+      (covered (accepted-trust s p set e .process) (accepted-trust s p set e .live))
+    where
+      -- the cascade leaves the new trust set in force
+      covered : p < s size → s (up p) ≡ 1 → Covers live (put s (trust p) set) p
+      covered hp u q hq lq =
+          let g = ap (λ (x : Still). x .ground) (cascade-still (put s (trust p) set) p) in
+          let z : cascade (put s (trust p) set) p size ≡ s size = ap (λ (x : Ground). x .size) g in
+          names-same live (cascade (put s (trust p) set) p) (put s (trust p) set) p q (sym g)
+          (f′ p q (omega (arith, z)) (omega (arith, z)) (ap (λ (x : Ground). x .up p) g ∙ u) lq)
+  live-step (crashes p) e f f′ = plain-live (put s (up p) 0) (crashed-net s p (v .net)) unmoved
+    where
+      unmoved : (r : ℕ) → Aside s (put s (up p) 0) r
+      unmoved r = record {
+        own = refl;
+        size-is = refl;
+        messages-is = refl;
+        group-is = λ q. refl;
+        trust-is = refl;
+        held-is = λ m. refl;
+        marks-is = λ m. refl;
+      }
+  live-step malformed e f f′ = v
+
+-- ---- a fresh world
+pub live-started : (live : ℕ → Bool) (setup : List ℕ) → Live live (made setup)
+unfolding made fresh
+live-started live setup = record {
+  net = record {
+    kept = λ p i hp h. absurd (not-suc-le-zero h);
+    ok-flies = λ m r u h. absurd (not-suc-le-zero h);
+    ok-marked = λ m r u h. absurd (not-suc-le-zero h);
+    relayed = λ m r u h. absurd (not-suc-le-zero h);
+    okayed = λ m r u h. absurd (not-suc-le-zero h);
+    posted = λ m u h. absurd (not-suc-le-zero h);
+  };
+  idle = λ p hp m h. absurd (not-suc-le-zero h);
+  trusted = λ p m q f. elim f [ in-at i h e ↦ absurd (not-suc-le-zero h) ];
+}
+
+-- ---- settles, and lists
+-- a run in the midst of a settle that began at r
+pub record During (live : ℕ → Bool) (r t : Run State) : Type 0 where
+  pub whole : Whole t
+  pub lives : Live live (t .now)
+  pub ground-is : ground (t .now) ≡ ground (r .now)
+
+-- an arrival changes no trust set, no group, and nobody goes down
+pub arrival-ground : (s : State) (k m q p : ℕ) → ground (arrival s k m q p) ≡ ground s
+unfolding arrival
+arrival-ground s k m q p =
+    ap (λ (v : Still). v .ground) (cascade-still (arrived s k m q p) p) ∙ arrived-ground s k m q p
+
+-- an arrival of a settle
+pub arrival-during : (live : ℕ → Bool) (r t : Run State) (k m q p : ℕ) → InForce live (r .now)
+    → accepted (t .now) (arrives k m q p) ≡ true → During live r t
+    → During live r (taken on-states t (arrives k m q p))
+unfolding step
+arrival-during live r t k m q p f e d =
+    let g = arrival-ground (t .now) k m q p ∙ d .ground-is in
+    record {
+      whole = whole-step (t .now) (t .seen) (arrives k m q p) e (d .whole);
+      lives = live-step live (t .now) (t .seen) (d .whole) (d .lives) (arrives k m q p) e
+          (in-force-same live (r .now) (t .now) (d .ground-is) f)
+          (in-force-same live (r .now) (arrival (t .now) k m q p) g f);
+      ground-is = g;
+    }
+
+-- an item
+live-act : (live : ℕ → Bool) (r : Run State) (i : Item) → Whole r → Live live (r .now) → InForce live (r .now)
+    → InForce live (act on-states r i .now) → Live live (act on-states r i .now)
+unfolding act tick settles
+live-act live r (given bytes) w v f f′ = go (accepted (r .now) (read bytes)) refl f′
+  where
+    go : (b : Bool) → accepted (r .now) (read bytes) ≡ b
+        → InForce live (pick b (taken on-states r (read bytes)) r .now)
+        → Live live (pick b (taken on-states r (read bytes)) r .now)
+    go true e f′ = live-step live (r .now) (r .seen) w v (read bytes) e f f′
+    go false e f′ = v
+live-act live r (settling b) w v f f′ =
+    settle-keeps (λ t. lowest (t .now)) (λ t k m q p. taken on-states t (arrives k m q p)) (During live r)
+    (λ t k m q p e d. arrival-during live r t k m q p f
+    (chosen-accepted (t .now) k m q p (lowest-moves (t .now) k m q p e)) d) b 0 r
+    (record { whole = w; lives = v; ground-is = refl }) .lives
+
+-- the trust sets are in force where a list begins, and where it ends
+along-begins : (live : ℕ → Bool) (r : Run State) (items : List Item) → AllAlong on-states live r items
+    → InForce live (r .now)
+unfolding AllAlong
+along-begins live r [] f = f
+along-begins live r (i ∷ items) f = f .0
+
+-- and where it ends
+pub along-ends : (live : ℕ → Bool) (r : Run State) (items : List Item) → AllAlong on-states live r items
+    → InForce live (run on-states r items .now)
+unfolding AllAlong run
+along-ends live r [] f = f
+along-ends live r (i ∷ items) f = along-ends live (act on-states r i) items (f .1)
+
+-- a list
+pub live-run : (live : ℕ → Bool) (r : Run State) (items : List Item) → Whole r → Live live (r .now)
+    → AllAlong on-states live r items
+    → Live live (run on-states r items .now)
+unfolding run AllAlong
+live-run live r [] w v f = v
+live-run live r (i ∷ items) w v f =
+    live-run live (act on-states r i) items (whole-act r i w)
+    (live-act live r i w v (f .0) (along-begins live (act on-states r i) items (f .1))) (f .1)

@@ -1,0 +1,3 @@
+pub mod Potential
+pub mod Bound
+pub mod Settle

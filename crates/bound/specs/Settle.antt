@@ -1,0 +1,143 @@
+-- Settle ends: each arrival lowers the potential, so a settle makes at most as many arrivals as the
+-- potential, and with a budget of at least that it says done, with no letter left to move. For any choice of
+-- the next letter that names only letters that can move, and names nothing only where none can; document 01's
+-- choice of the lowest is one. Assumes nothing.
+use mathlib.Core.Path.{_≡_, refl, subst}
+use mathlib.Core.List.{List}
+use Prim.Native.Nat.{ℕ, zero, suc, _+_, _*_, _≤_, _<_}
+use native.Mathlib.Omega.{arith}
+use Rattle.world.specs.World.{count, State}
+use Rattle.world.specs.Sound.{Sound}
+use Rattle.world.specs.Setup.{setup-refusal}
+use Rattle.world.specs.Machine.{arrival}
+use Rattle.world.specs.Steps.{arrives, step}
+use Rattle.world.specs.StepLaws.{Moves, Chosen, lowest-chosen}
+use Rattle.world.specs.Settle.{Choice, letter, nothing, lowest, Ending, done, stopped, Settled, settle-from, settle}
+use Rattle.world.specs.History.{Item, on-states, run, started}
+use Rattle.keeps.specs.Keeps.{step-sound}
+use Rattle.effects.specs.Holding.{chosen-accepted}
+use Rattle.bound.specs.Potential.{sum, addressee-count, potential, potential-falls}
+use Rattle.bound.specs.Bound.{arrival-lower, ceiling, Kept, kept-made, kept-run, reached-potential, ceiling-most, sound-potential}
+
+-- ---- an answer: the arrivals that it names, and whether it says done
+abbrev pub arrivals : Ending → ℕ
+arrivals (done n) = n
+arrivals (stopped n) = n
+
+-- it says done
+abbrev pub SaysDone : Ending → Type 0
+SaysDone e = e ≡ done (arrivals e)
+
+-- ---- any settle
+module _ {S : Type 0} (choose : S → Choice) (arrive : S → ℕ → ℕ → ℕ → ℕ → S) (P : S → Type 0)
+    (left : S → ℕ) where
+  -- what is kept, how many arrivals, and the end
+  pub record Ended (b n : ℕ) (s : S) (u : Settled S) : Type 0 where
+    pub kept : P (u .world)
+    pub few : arrivals (u .ending) ≤ n + left s
+    pub finishes : left s ≤ b → SaysDone (u .ending) × (choose (u .world) ≡ nothing)
+
+  -- what one arrival gives
+  pub record Falls (s t : S) : Type 0 where
+    pub keeps : P t
+    pub lowers : left t < left s
+
+  module _ (turn : (s : S) (k m q p : ℕ) → choose s ≡ letter k m q p → P s → Falls s (arrive s k m q p)) where
+    pub settle-ends : (b n : ℕ) (s : S) → P s → Ended b n s (settle-from choose arrive b n s)
+    unfolding settle-from
+    settle-ends zero n s p = go (choose s) refl
+      where
+        go : (c : Choice) → choose s ≡ c → Ended 0 n s (elim c [
+          | letter k m q p ↦ record { world = s; ending = stopped n }
+          | nothing ↦ record { world = s; ending = done n }
+        ])
+        go (letter k m q r) e = record {
+          kept = p;
+          few = omega arith;
+          finishes = λ h. let f = turn s k m q r e p .lowers in absurd (omega arith);
+        }
+        go nothing e = record { kept = p; few = omega arith; finishes = λ h. (refl, e) }
+    settle-ends (suc b) n s p = go (choose s) refl (λ k m q r z. settle-ends b (n + 1) (arrive s k m q r) z)
+      where
+        go : (c : Choice) → choose s ≡ c
+            → ((k m q r : ℕ) → P (arrive s k m q r)
+            → Ended b (n + 1) (arrive s k m q r) (settle-from choose arrive b (n + 1) (arrive s k m q r)))
+            → Ended (suc b) n s (elim c [
+              | letter k m q r ↦ settle-from choose arrive b (n + 1) (arrive s k m q r)
+              | nothing ↦ record { world = s; ending = done n }
+            ])
+        go (letter k m q r) e ih =
+            let f = turn s k m q r e p in
+            let i = ih k m q r (f .keeps) in
+            record {
+              kept = i .kept;
+              few = omega (arith, i .few, f .lowers);
+              finishes = λ h. i .finishes (omega (arith, f .lowers));
+            }
+        go nothing e ih = record { kept = p; few = omega arith; finishes = λ h. (refl, e) }
+
+-- ---- an arrival of a letter that can move lowers the potential of a sound world
+pub moved-falls : (s : State) (k m q p : ℕ) → Sound s → Moves s k m q p
+    → potential (arrival s k m q p) < potential s
+moved-falls s k m q p h a =
+    let z = arrival-lower s k m q p h (a .letter) in
+    potential-falls (z .lowered) m q (a .letter .message) (a .letter .from) (z .falls)
+
+-- the world stays sound
+sound-arrival : (s : State) (k m q p : ℕ) → Moves s k m q p → Sound s → Sound (arrival s k m q p)
+unfolding step
+sound-arrival s k m q p a h = step-sound s (arrives k m q p) (chosen-accepted s k m q p a) h
+
+-- ---- settle on a sound world, with any such choice
+module _ (choose : State → Choice) (good : (s : State) → Chosen s (choose s)) where
+  pub choice-ends : (s : State) (b : ℕ) → Sound s
+      → Ended choose arrival Sound potential b 0 s (settle-from choose arrival b 0 s)
+  choice-ends s b h =
+      settle-ends choose arrival Sound potential
+      (λ t k m q p e z. moved t k m q p (subst (Chosen t) e (good t)) z) b 0 s h
+    where
+      moved : (t : State) (k m q p : ℕ) → Moves t k m q p → Sound t
+          → Falls choose arrival Sound potential t (arrival t k m q p)
+      moved t k m q p a z = record { keeps = sound-arrival t k m q p a z; lowers = moved-falls t k m q p z a }
+
+-- ---- the theorems
+module _ (s : State) (b : ℕ) (h : Sound s) where
+  ended : Ended lowest arrival Sound potential b 0 s (settle s b)
+  unfolding settle
+  ended = choice-ends lowest lowest-chosen s b h
+
+  -- a settle of any sound world makes at most the sum of A + 4 × A × A arrivals, and says done with such a
+  -- budget
+  pub sound-settle-bound : arrivals (settle s b .ending)
+      ≤ sum (s count) (λ m. addressee-count s m + 4 * (addressee-count s m * addressee-count s m))
+  sound-settle-bound = omega (arith, ended .few, sound-potential s h)
+
+  -- with that budget it says done
+  pub sound-settle-done : sum (s count)
+      (λ m. addressee-count s m + 4 * (addressee-count s m * addressee-count s m)) ≤ b
+      → SaysDone (settle s b .ending)
+  sound-settle-done l = ended .finishes (omega (arith, sound-potential s h)) .0
+
+-- of a reached world at most the sum of A + 2 × A × A
+module _ (setup : List ℕ) (items : List Item) (ok : setup-refusal setup ≡ 0) where
+  -- the state after the list
+  abbrev end : State
+  end = run on-states (started setup) items .now
+
+  -- the state after the list is sound, and bounded
+  kept : Kept (run on-states (started setup) items .now)
+  kept = kept-run (started setup) items (kept-made setup ok)
+
+  -- the bound of document 01
+  pub reached-settle-bound : (b : ℕ) → arrivals (settle (run on-states (started setup) items .now) b .ending)
+      ≤ sum (run on-states (started setup) items .now count)
+      (λ m. ceiling (addressee-count (run on-states (started setup) items .now) m))
+  reached-settle-bound b =
+      omega (arith, ended end b (kept .sound) .few, reached-potential end (kept .bounded))
+
+  -- a settle with at least 33,792 arrivals says done, without the trust rule
+  pub reached-settle-done : (b : ℕ) → 33792 ≤ b
+      → SaysDone (settle (run on-states (started setup) items .now) b .ending)
+  reached-settle-done b l =
+      ended end b (kept .sound) .finishes
+      (omega (arith, reached-potential end (kept .bounded), ceiling-most end (kept .sound))) .0

@@ -1,0 +1,232 @@
+-- Runs that meet the hypotheses of demand 3, computed on states: one in which a message is overtaken by one
+-- that it precedes, and waits; and one in which a process crashes and the trust rule holds, so that the FIFO
+-- logs agree after a settle. Assumes nothing.
+use mathlib.Core.Path.{_≡_, refl, sym, ap, _∙_, subst}
+use mathlib.Core.Bool.{Bool, true, false, _&&_}
+use mathlib.Core.List.{List, [], _∷_}
+use Prim.Native.Nat.{ℕ, _<_}
+use native.Mathlib.Decide.{ℕ-discrete}
+use native.Mathlib.Omega.{arith}
+use lib.Dec.{eqb}
+use Rattle.base.specs.Tests.{clash}
+use Rattle.base.specs.Search.{every, some, first-from}
+use Rattle.base.specs.Count.{absent}
+use Rattle.base.specs.Loop.{chosen, loop}
+use Rattle.base.specs.Bits.{bit, with, without, mask-of, only}
+use Rattle.world.specs.World.{size, group, trust, up, fifo-length, causal-length, fifo, causal, State, put}
+use Rattle.world.specs.Setup.{fresh, setup-bits, setup-group, setup-has, good-setup, setup-refusal, made}
+use Rattle.world.specs.Machine.{with-tables, ready, deliverable, deliverable-at, merge, causal-one, causal-all, appended, raised-next, due, send-ok, send-oks, fifo-one, cascade, raised, stamped, numbered, posted, multicast, leave, mark, hold, arrival, trust-set, crash}
+use Rattle.world.specs.Steps.{read, has-group, good-mask, is-up, refusal, step}
+use Rattle.world.specs.Settle.{moves, receiver, origin, kind, movable, letter-of, lowest, settle-from}
+use Rattle.world.specs.History.{Event, sent, got, here, there, same, carried, chain, Before, casts, deliveries, gained, Run, Item, given, on-states, tick, act, run, started, names, InForce, AllAlong, TrustRule}
+use Rattle.agreement.specs.Agreement.{Agreed}
+use Rattle.demand.specs.States.{settled, demand-3-states}
+
+-- ---- steps as items
+abbrev multicasting : ℕ → ℕ → Item
+multicasting p groups = given (1 ∷ p ∷ groups ∷ 0 ∷ 0 ∷ 0 ∷ 0 ∷ 0 ∷ [])
+
+-- an arrival
+abbrev arriving : ℕ → ℕ → ℕ → ℕ → Item
+arriving k m q p = given (2 ∷ k ∷ m ∷ q ∷ p ∷ 0 ∷ 0 ∷ 0 ∷ [])
+
+-- ---- the third known run: processes 0, 1, 2 in groups 0, 1, 2; 0 multicasts message 0 to group 2 and 1 to
+-- group 1; 1
+-- delivers it and multicasts 2 to group 2
+abbrev three : List ℕ
+three = 0 ∷ 3 ∷ 136 ∷ 0 ∷ 0 ∷ 0 ∷ 0 ∷ 0 ∷ []
+
+-- until message 2's letters have arrived
+abbrev until-overtaken : List Item
+until-overtaken =
+    multicasting 0 4
+    ∷ multicasting 0 2
+    ∷ arriving 0 1 0 1
+    ∷ arriving 2 1 1 1
+    ∷ multicasting 1 4
+    ∷ arriving 0 2 1 2
+    ∷ arriving 2 2 2 2
+    ∷ []
+
+-- what it has seen
+abbrev seen-so-far : List Event
+seen-so-far = sent 1 2 ∷ got 1 1 ∷ sent 0 1 ∷ sent 0 0 ∷ []
+
+-- two histories are the same
+abbrev same-events : List Event → List Event → Bool
+same-events [] [] = true
+same-events [] (y ∷ ys) = false
+same-events (x ∷ xs) [] = false
+same-events (sent p m ∷ xs) (sent q n ∷ ys) = eqb p q && eqb m n && same-events xs ys
+same-events (sent p m ∷ xs) (got q n ∷ ys) = false
+same-events (got p m ∷ xs) (sent q n ∷ ys) = false
+same-events (got p m ∷ xs) (got q n ∷ ys) = eqb p q && eqb m n && same-events xs ys
+
+-- process 2 has FIFO-delivered message 2, and nothing causally: message 2 waits. Message 0 is in no log of 2.
+abbrev waits : Run State → Bool
+waits r =
+    eqb (r .now (fifo-length 2)) 1
+    && eqb (r .now (fifo 2 0)) 2
+    && eqb (r .now (causal-length 2)) 0
+    && same-events (r .seen) seen-so-far
+
+-- it is so
+pub overtaken-waits : waits (run on-states (started three) until-overtaken) ≡ true
+unfolding ℕ-discrete every some first-from absent chosen loop bit with without mask-of only put with-tables
+    ready deliverable deliverable-at merge causal-one causal-all appended raised-next due send-ok send-oks
+    fifo-one cascade raised stamped numbered posted multicast leave mark hold arrival trust-set crash fresh
+    setup-bits setup-group made read has-group good-mask refusal step tick act run gained deliveries
+overtaken-waits = refl
+
+-- message 0 precedes message 2: process 0 multicast 1 after it, and process 1 delivered 1 before it multicast 2
+pub overtaken-precedes : Before seen-so-far 0 2
+overtaken-precedes =
+    casts {i = 0} {j = 3} 0 1 (there (there (there (here refl)))) (here refl)
+    (chain {j = 1}
+    (same {i = 0} {j = 1} (sent 0 0) (sent 0 1) (omega arith) (there (there (there (here refl))))
+    (there (there (here refl))) refl)
+    (chain {j = 2}
+    (carried {i = 1} {j = 2} 0 1 1 (omega arith) (there (there (here refl))) (there (here refl)))
+    (same {i = 2} {j = 3} (got 1 1) (sent 1 2) (omega arith) (there (here refl)) (here refl) refl)))
+
+-- then message 0 arrives, and both are delivered causally, message 0 first
+abbrev until-delivered : List Item
+until-delivered = arriving 0 0 0 2 ∷ arriving 2 0 2 2 ∷ []
+
+-- that is seen of it
+abbrev delivered : Run State → Bool
+delivered r =
+    eqb (r .now (fifo-length 2)) 2
+    && eqb (r .now (fifo 2 1)) 0
+    && eqb (r .now (causal-length 2)) 2
+    && eqb (r .now (causal 2 0)) 0
+    && eqb (r .now (causal 2 1)) 2
+    && same-events (r .seen) (got 2 2 ∷ got 2 0 ∷ seen-so-far)
+
+-- it is so
+pub overtaken-delivered : delivered
+    (run on-states (run on-states (started three) until-overtaken) until-delivered) ≡ true
+unfolding ℕ-discrete every some first-from absent chosen loop bit with without mask-of only put with-tables
+    ready deliverable deliverable-at merge causal-one causal-all appended raised-next due send-ok send-oks
+    fifo-one cascade raised stamped numbered posted multicast leave mark hold arrival trust-set crash fresh
+    setup-bits setup-group made read has-group good-mask refusal step tick act run gained deliveries
+overtaken-delivered = refl
+
+-- ---- two processes of one group: 0 multicasts, its letter reaches 1, 0 crashes, and 1 trusts only itself
+abbrev pair : List ℕ
+pair = 0 ∷ 2 ∷ 0 ∷ 0 ∷ 0 ∷ 0 ∷ 0 ∷ 0 ∷ []
+
+-- the steps
+abbrev crashing : List Item
+crashing =
+    multicasting 0 1
+    ∷ arriving 0 0 0 1
+    ∷ given (5 ∷ 0 ∷ 0 ∷ 0 ∷ 0 ∷ 0 ∷ 0 ∷ 0 ∷ [])
+    ∷ given (4 ∷ 1 ∷ 2 ∷ 0 ∷ 0 ∷ 0 ∷ 0 ∷ 0 ∷ [])
+    ∷ []
+
+-- both trust 1: then the trust sets name a live process for the only group
+both-trust : (s : State) → s size ≡ 2 → s (group 0) ≡ s (group 1) → bit (s (trust 0)) 1 ≡ true
+    → bit (s (trust 1)) 1 ≡ true → (live : ℕ → Bool) → live 1 ≡ true → InForce live s
+both-trust s z g t0 t1 live l p q hp hq u lq =
+    names 1 (omega arith) l (same-group (ℕ-discrete 1 q)) (trusts (ℕ-discrete 1 p))
+  where
+    trusts : Dec (1 ≡ p) → bit (s (trust p)) 1 ≡ true
+    trusts (yes e) = subst (λ (x : ℕ). bit (s (trust x)) 1 ≡ true) e t1
+    trusts (no n) =
+        let e : 0 ≡ p = omega arith in
+        subst (λ (x : ℕ). bit (s (trust x)) 1 ≡ true) e t0
+
+    same-group : Dec (1 ≡ q) → s (group 1) ≡ s (group q)
+    same-group (yes e) = ap (λ (x : ℕ). s (group x)) e
+    same-group (no n) =
+        let e : 0 ≡ q = omega arith in
+        sym g ∙ ap (λ (x : ℕ). s (group x)) e
+
+-- the runs after no, one, two, three and all four steps
+abbrev r₀ : Run State
+r₀ = started pair
+
+-- after the multicast
+abbrev r₁ : Run State
+r₁ = act on-states r₀ (multicasting 0 1)
+
+-- after the arrival
+abbrev r₂ : Run State
+r₂ = act on-states r₁ (arriving 0 0 0 1)
+
+-- after the crash
+abbrev r₃ : Run State
+r₃ = act on-states r₂ (given (5 ∷ 0 ∷ 0 ∷ 0 ∷ 0 ∷ 0 ∷ 0 ∷ 0 ∷ []))
+
+-- after the trust step
+abbrev r₄ : Run State
+r₄ = act on-states r₃ (given (4 ∷ 1 ∷ 2 ∷ 0 ∷ 0 ∷ 0 ∷ 0 ∷ 0 ∷ []))
+
+-- the trust rule holds
+pub crash-rule : TrustRule on-states (started pair) crashing
+unfolding ℕ-discrete every some first-from absent chosen loop bit with without mask-of only put with-tables
+    ready deliverable deliverable-at merge causal-one causal-all appended raised-next due send-ok send-oks
+    fifo-one cascade raised stamped numbered posted multicast leave mark hold arrival trust-set crash fresh
+    setup-bits setup-group made read has-group good-mask refusal step tick act run gained deliveries AllAlong
+crash-rule = record {
+  in-force = (
+    trusted (r₀ .now) refl refl refl refl,
+    (
+      trusted (r₁ .now) refl refl refl refl,
+      (
+        trusted (r₂ .now) refl refl refl refl,
+        (
+          trusted (r₃ .now) refl refl refl refl,
+          trusted (r₄ .now) refl refl refl refl,
+        ),
+      ),
+    ),
+  );
+  fair = λ p q hp hq u b. only-one p q hp hq u b (ℕ-discrete 1 p) (ℕ-discrete 1 q);
+}
+  where
+    trusted : (s : State) → s size ≡ 2 → s (group 0) ≡ s (group 1) → bit (s (trust 0)) 1 ≡ true
+        → bit (s (trust 1)) 1 ≡ true
+        → InForce (is-up (run on-states (started pair) crashing .now)) s
+    trusted s z g t0 t1 = both-trust s z g t0 t1 (is-up (run on-states (started pair) crashing .now)) refl
+
+    -- process 0 is down, and 1 does not trust it
+    only-one : (p q : ℕ) → p < 2 → q < 2 → run on-states (started pair) crashing .now (up p) ≡ 1
+        → bit (run on-states (started pair) crashing .now (trust p)) q ≡ true → Dec (1 ≡ p) → Dec (1 ≡ q)
+        → run on-states (started pair) crashing .now (up q) ≡ 1
+    only-one p q hp hq u b d (yes e) =
+        subst (λ (x : ℕ). run on-states (started pair) crashing .now (up x) ≡ 1) e refl
+    only-one p q hp hq u b (no n) (no k) =
+        let e : p ≡ 0 = omega arith in
+        let z : _≡_ {A = ℕ} 0 1 =
+        subst (λ (x : ℕ). run on-states (started pair) crashing .now (up x) ≡ 1) e u in
+        absurd (omega arith)
+    only-one p q hp hq u b (yes d) (no k) =
+        let e : q ≡ 0 = omega arith in
+        clash (subst (λ (x : ℕ). bit (run on-states (started pair) crashing .now (trust 1)) x ≡ true) e
+        (subst (λ (x : ℕ). bit (run on-states (started pair) crashing .now (trust x)) q ≡ true) (sym d) b))
+        refl
+
+-- so after a settle with 33,792 arrivals what one process has FIFO-delivered every live addressee has
+pub crash-agreed : Agreed (settled (run on-states (started pair) crashing) 33792 .world .now)
+unfolding setup-refusal good-setup setup-has setup-bits setup-group every
+crash-agreed = demand-3-states pair crashing refl .agreed crash-rule 33792 (omega arith)
+
+-- and the live process has: its own OK arrives in the settle, and the message of the process that crashed is
+-- in both its logs
+abbrev survived : State → Bool
+survived s =
+    eqb (s (fifo-length 1)) 1
+    && eqb (s (fifo 1 0)) 0
+    && eqb (s (causal-length 1)) 1
+    && eqb (s (fifo-length 0)) 0
+
+-- it is so
+pub crash-delivered : survived (settled (run on-states (started pair) crashing) 5 .world .now) ≡ true
+unfolding ℕ-discrete every some first-from absent chosen loop bit with without mask-of only put with-tables
+    ready deliverable deliverable-at merge causal-one causal-all appended raised-next due send-ok send-oks
+    fifo-one cascade raised stamped numbered posted multicast leave mark hold arrival trust-set crash fresh
+    setup-bits setup-group made read has-group good-mask refusal step tick act run gained deliveries
+    moves receiver origin kind movable letter-of lowest settle-from settled
+crash-delivered = refl

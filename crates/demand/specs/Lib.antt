@@ -1,0 +1,4 @@
+pub mod States
+pub mod Words
+pub mod Theorem
+pub mod Examples

@@ -1,0 +1,193 @@
+-- Demand 3: for every lent world of 20,480 words, every setup record that is taken and every list of items,
+-- what the calls give has causal order, settle makes at most 33,792 arrivals, and under the trust rule a
+-- settle allowed that many says done and leaves the FIFO logs agreed. No hypothesis but the trust rule where
+-- the demand names it. It is the demand over states (States), read off the words of the run's state (Words).
+-- Assumes nothing.
+use mathlib.Core.Path.{_≡_, sym, ap, _∙_, subst, subst₂}
+use mathlib.Core.Bool.{true}
+use mathlib.Core.List.{List}
+use Prim.Native.Nat.{ℕ, _≤_, _<_}
+use native.Mathlib.Omega.{arith}
+use lib.Dec.{eqb}
+use lib.ListN.{length, getD}
+use borrow.Author.Tests.{ltb-true}
+use Rattle.base.specs.Count.{in-at}
+use Rattle.base.specs.Tabulate.{length-tabulate, getD-tabulate}
+use Rattle.world.specs.World.{size, count, up, causal-length, fifo, causal, sender, State, encode, view}
+use Rattle.world.specs.Layout.{get-encode}
+use Rattle.world.specs.Sound.{Sound}
+use Rattle.world.specs.SoundLaws.{size-high, count-high, sender-low, fifo-addressed}
+use Rattle.world.specs.Setup.{setup-refusal}
+use Rattle.world.specs.Machine.{addressed}
+use Rattle.world.specs.Steps.{is-up}
+use Rattle.world.specs.Settle.{Ending, done, stopped}
+use Rattle.world.specs.Words.{gives, settled-words, settle-reply, log-words}
+use Rattle.world.specs.History.{Before, casts, Run, Item, on-states, on-words, run, started, Fair, TrustRule}
+use Rattle.world.specs.Demand.{CausalOrder, Agreed, AtMost, done-in, stopped-in, SaysDone, says-done, Demand3, Demand3Always}
+use Rattle.keeps.specs.Keeps.{run-sound, fresh-sound}
+use Rattle.order.specs.Precedence.{cast-low}
+use Rattle.order.specs.Runs.{Whole}
+use Rattle.order.specs.Order.{Fifo, causal-past, past-causal, causal-once, causal-ordered}
+use Rattle.agreement.specs.Agreement.{Agreed as AgreedStates}
+use Rattle.bound.specs.Settle.{arrivals, SaysDone as EndsDone}
+use Rattle.carried.specs.Carried.{written, run-carried, setup-taken, start-carried}
+use Rattle.demand.specs.States.{settled, Demand3States, demand-3-states}
+use Rattle.demand.specs.Words.{listed-in, in-listed, size-read, to-read, fifo-read, causal-read, settled-both, settled-carried, reply-carried, fair-read, run-size, along-read}
+
+-- ---- conclusions 1 and 2
+module _ (r : Run State) (h : Sound (r .now)) (w : Whole r) where
+  process-low : (p : ℕ) → p < view (encode (r .now)) size → p < r .now size
+  process-low p l = omega (arith, size-read (r .now) h)
+
+  -- a message that precedes another is below the count, so that its mask is read right
+  to-same : (x m p : ℕ) → Before (r .seen) x m → p < r .now size
+      → addressed (view (encode (r .now))) x p ≡ addressed (r .now) x p
+  to-same x m p (casts q q′ i j z) hp =
+      to-read (r .now) h x p (omega (arith, cast-low (r .seen) (w .formed) i, count-high (r .now) h))
+      (omega (arith, size-high (r .now) h))
+
+  -- on the words of a run
+  causal-order : CausalOrder (written r)
+  causal-order = record {
+    exact = λ p m l. let hp = process-low p l in (
+      (λ c.
+          let y = causal-past w p m (listed-in (causal-read (r .now) h p hp) c) in (
+            in-listed (fifo-read (r .now) h p hp) (y .0),
+            λ x b t. in-listed (fifo-read (r .now) h p hp) (y .1 x b (sym (to-same x m p b hp) ∙ t)),
+          )),
+      (λ y. in-listed (causal-read (r .now) h p hp)
+          (past-causal w p m (listed-in (fifo-read (r .now) h p hp) (y .0))
+          (λ x b t. listed-in (fifo-read (r .now) h p hp) (y .1 x b (to-same x m p b hp ∙ t))))),
+    );
+    once = λ p l i j a k e.
+        let hp = process-low p l in
+        let kj : j < r .now (causal-length p) = omega (arith, long p hp) in
+        causal-once w p i j a kj (sym (item p hp i (omega arith)) ∙ e ∙ item p hp j kj);
+    ordered = λ p i j l hi hj b.
+        let hp = process-low p l in
+        let ki : i < r .now (causal-length p) = omega (arith, long p hp) in
+        let kj : j < r .now (causal-length p) = omega (arith, long p hp) in
+        causal-ordered w p i j ki kj (subst₂ (Before (r .seen)) (item p hp j kj) (item p hp i ki) b);
+  }
+    where
+      long : (p : ℕ) → p < r .now size
+          → length (log-words (encode (r .now)) p true) ≡ r .now (causal-length p)
+      long p hp = ap length (causal-read (r .now) h p hp)
+          ∙ length-tabulate (r .now (causal-length p)) (λ i. r .now (causal p i))
+
+      item : (p : ℕ) (hp : p < r .now size) (i : ℕ) → i < r .now (causal-length p)
+          → getD (log-words (encode (r .now)) p true) i 0 ≡ r .now (causal p i)
+      item p hp i l =
+          ap (λ (xs : List ℕ). getD xs i 0) (causal-read (r .now) h p hp)
+          ∙ getD-tabulate (r .now (causal-length p)) (λ i. r .now (causal p i)) i 0 l
+
+-- ---- conclusion 3: agreement
+module _ (s : State) (h : Sound s) (a : AgreedStates s) where
+  low : (p : ℕ) → p < s size → p < 16
+  low p l = omega (arith, size-high s h)
+
+  -- what is in a log is a message
+  logged : (p m : ℕ) → p < s size → Fifo s p m → m < s count
+  logged p m hp (in-at i l e) =
+      subst (λ (z : ℕ). z < s count) e (ltb-true (s (fifo p i)) (s count) (fifo-addressed s h p i hp l .of))
+
+  -- who is up on the words is up
+  up-read : (q : ℕ) → q < s size → view (encode s) (up q) ≡ 1 → s (up q) ≡ 1
+  up-read q hq e = sym (get-encode s (up q) (low q hq)) ∙ e
+
+  -- on the words of a state
+  agreed-words : Agreed (encode s)
+  agreed-words = record {
+    valid = λ m q l us u t.
+        let hm : m < s count = omega (arith, get-encode s count tt) in
+        let m64 : m < 64 = omega (arith, count-high s h) in
+        let hq : q < s size = omega (arith, u .0, size-read s h) in
+        let from = ap (λ (x : ℕ). view (encode s) (up x)) (get-encode s (sender m) m64) in
+        in-listed (fifo-read s h q hq)
+        (a .valid m q hm (up-read (s (sender m)) (sender-low s h m hm) (sym from ∙ us .1))
+        (hq, up-read q hq (u .1))
+        (sym (to-read s h m q m64 (low q hq)) ∙ t));
+    uniform = λ m p q l f u t.
+        let hp : p < s size = omega (arith, size-read s h) in
+        let hq : q < s size = omega (arith, u .0, size-read s h) in
+        let g = listed-in (fifo-read s h p hp) f in
+        let m64 : m < 64 = omega (arith, logged p m hp g, count-high s h) in
+        in-listed (fifo-read s h q hq)
+        (a .uniform m p q hp g (hq, up-read q hq (u .1)) (sym (to-read s h m q m64 (low q hq)) ∙ t));
+  }
+
+-- ---- settle's answer
+at-most : (n : ℕ) (e : Ending) → arrivals e ≤ n → AtMost n (gives e)
+at-most n (done i) l = done-in i l
+at-most n (stopped i) l = stopped-in i l
+
+-- an answer that says done
+says : (e : Ending) → EndsDone e → SaysDone (gives e)
+says e d = subst (λ (x : Ending). SaysDone (gives x)) (sym d) (says-done (arrivals e))
+
+-- ---- the theorem, from the words of a fresh state
+module _ (setup : List ℕ) (items : List Item) (ok : setup-refusal setup ≡ 0) where
+  -- the run over states
+  abbrev r : Run State
+  r = run on-states (started setup) items
+
+  -- the first state is sound
+  sound-first : Sound (started setup .now)
+  sound-first = fresh-sound setup ok
+
+  -- and the last
+  sound-last : Sound (run on-states (started setup) items .now)
+  sound-last = run-sound (started setup) items sound-first
+
+  -- the run over words is its words
+  carried : run on-words (written (started setup)) items ≡ written (run on-states (started setup) items)
+  carried = run-carried (started setup) items sound-first
+
+  -- the demand over states
+  on-states-3 : Demand3States (started setup) items
+  on-states-3 = demand-3-states setup items ok
+
+  -- the trust rule read off words is that of the states
+  rule-read : TrustRule on-words (written (started setup)) items → TrustRule on-states (started setup) items
+  rule-read t = record {
+    in-force =
+        along-read (r .now size) (is-up (view (run on-words (written (started setup)) items .now)))
+        (is-up (r .now))
+        (λ q l. ap (λ (x : ℕ). eqb x 1) (ap (λ (x : Run (List ℕ)). view (x .now) (up q)) carried
+        ∙ get-encode (r .now) (up q) (omega (arith, size-high (r .now) sound-last))))
+        items (started setup) (sym (run-size (started setup) items)) sound-first (t .in-force);
+    fair =
+        fair-read (r .now) sound-last (subst (λ (x : Run (List ℕ)). Fair (view (x .now))) carried (t .fair));
+  }
+
+  -- the demand on words
+  demand-3-written : Demand3 (written (started setup)) items
+  demand-3-written = record {
+    order = subst CausalOrder (sym carried) (causal-order r sound-last (on-states-3 .whole));
+    bounded =
+        λ b. subst (AtMost 33792) (sym (reply b))
+        (at-most 33792 (settled r b .ending) (on-states-3 .bounded b));
+    settles = λ t b l. (
+      subst SaysDone (sym (reply b)) (says (settled r b .ending) (on-states-3 .finishes b l)),
+      subst Agreed
+          (sym (ap (λ (x : Run (List ℕ)). settled-words (x .now) b) carried ∙ settled-carried r sound-last b))
+          (agreed-words (settled r b .world .now) (settled-both r sound-last b .worlds .sound-t)
+          (on-states-3 .agreed (rule-read t) b l)),
+    );
+  }
+    where
+      reply : (b : ℕ)
+          → settle-reply (run on-words (written (started setup)) items .now) b ≡ gives (settled r b .ending)
+      reply b = ap (λ (x : Run (List ℕ)). settle-reply (x .now) b) carried ∙ reply-carried r sound-last b
+
+-- Demand 3. Why it is true: a process delivers causally only what every other sender's counter allows, and
+-- counters count the multicasts known of; so a message goes in exactly when all that precede it and are to
+-- the group are in the FIFO log, and after them. Every letter in flight, and every one that may still be
+-- sent, is counted by a number that no step but a multicast raises and each arrival lowers; so a settle of
+-- 33,792 arrivals ends, with no letter left between up processes. Then whoever holds a message has told all
+-- live addressees, and each has told all that it is its turn; what one process delivered was vouched for by a
+-- live member of each group, which the trust rule gives.
+pub demand-3 : Demand3Always
+demand-3 w setup items e =
+    subst (λ (r : Run (List ℕ)). Demand3 r items) (sym (start-carried w setup e))
+    (demand-3-written setup items (setup-taken w setup e))

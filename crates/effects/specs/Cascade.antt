@@ -1,0 +1,600 @@
+-- What the cascade at p leaves as it was, and what each of its parts writes. The causal deliveries write p's
+-- causal log, del and counters; a FIFO delivery besides these p's FIFO log, next of the sender, and OKs from
+-- p. Assumes nothing.
+use mathlib.Core.Path.{_≡_, refl, sym, ap, ap₂, _∙_, subst}
+use mathlib.Core.Bool.{Bool, true, false, _&&_}
+use mathlib.Core.Logic.{_⊎_, inl, inr, _≢_}
+use Prim.Native.Nat.{ℕ, zero, suc, _+_, _-_, _≤_, _<_, max}
+use native.Mathlib.Decide.{ℕ-discrete}
+use native.Mathlib.Omega.{arith}
+use lib.Dec.{eqb, ltb}
+use borrow.Author.Tests.{ne-eqb, eq-eqb, eqb-true, lt-ltb, le-ltb, ltb-true, ltb-false}
+use Rattle.base.specs.Tests.{pick, pick-no, pick-yes, both, both-l, both-r, both-i, bool-cases, clash, eqb-refl}
+use Rattle.base.specs.Bits.{bit, mask-of}
+use Rattle.base.specs.Loop.{loop-keeps}
+use Rattle.world.specs.World.{Cell, size, count, group, counter, sequence, next, delivered, fifo-length, causal-length, held, fifo, causal, sender, stamp, number, flight, State, put}
+use Rattle.world.specs.Layout.{put-same, put-other}
+use Rattle.world.specs.Machine.{with-tables, addressees, in-turn, deliverable-at, merge, causal-one, causal-all, appended, raised-next, due, send-ok, send-oks, fifo-one, ready, cascade}
+use Rattle.keeps.specs.Cascade.{next-before}
+use Rattle.effects.specs.Views.{Messages, messages, Process, process, Ground, ground, Still, still, letters}
+
+-- ---- what no part writes
+causal-one-still : (s : State) (p i : ℕ) → still (causal-one s p i) ≡ still s
+unfolding causal-one merge with-tables put
+causal-one-still s p i = refl
+
+-- what a causal delivery at p keeps, all of them keep
+causal-all-keeps : {A : Type 0} (f : State → A) (p : ℕ) → ((t : State) (i : ℕ) → f (causal-one t p i) ≡ f t)
+    → (s : State) → f (causal-all s p) ≡ f s
+unfolding causal-all
+causal-all-keeps f p one s =
+    loop-keeps (λ t. t (fifo-length p)) (λ t. deliverable-at t p) (λ t. causal-one t p) (λ t. f t ≡ f s)
+    (λ t i _ _ _ e. one t i ∙ e) (s (fifo-length p) - s (causal-length p)) s refl
+
+-- all causal deliveries at p
+pub causal-all-still : (s : State) (p : ℕ) → still (causal-all s p) ≡ still s
+causal-all-still s p = causal-all-keeps still p (λ t i. causal-one-still t p i) s
+
+-- a message appended to the FIFO log
+pub appended-still : (s : State) (p m : ℕ) → still (appended s p m) ≡ still s
+unfolding appended put
+appended-still s p m = refl
+
+-- next raised
+pub next-still : (s : State) (p q : ℕ) → still (raised-next s p q) ≡ still s
+unfolding raised-next put
+next-still s p q = refl
+
+-- the OKs are letters, and nothing else
+pub oks-still : (s : State) (p q k : ℕ) → still (send-oks s p q k) ≡ still s
+unfolding send-oks send-ok put
+oks-still s p q zero = refl
+oks-still s p q (suc k) = go (due (send-oks s p q k) p q k) ∙ oks-still s p q k
+  where
+    t : State
+    t = send-oks s p q k
+
+    go : (b : Bool) → still (pick b (put t (flight k 2 p) (addressees t k)) t) ≡ still t
+    go true = refl
+    go false = refl
+
+-- and change no process's record
+pub oks-process : (s : State) (p q k r : ℕ) → process (send-oks s p q k) r ≡ process s r
+unfolding send-oks send-ok put
+oks-process s p q zero r = refl
+oks-process s p q (suc k) r = go (due (send-oks s p q k) p q k) ∙ oks-process s p q k r
+  where
+    t : State
+    t = send-oks s p q k
+
+    go : (b : Bool) → process (pick b (put t (flight k 2 p) (addressees t k)) t) r ≡ process t r
+    go true = refl
+    go false = refl
+
+-- a turn of the cascade
+pub fifo-one-still : (s : State) (p m : ℕ) → still (fifo-one s p m) ≡ still s
+unfolding fifo-one
+fifo-one-still s p m =
+    let u : State = causal-all (appended s p m) p in
+    oks-still (raised-next u p (s (sender m))) p (s (sender m)) _ ∙ next-still u p (s (sender m))
+    ∙ causal-all-still (appended s p m) p ∙ appended-still s p m
+
+-- the whole cascade
+pub cascade-still : (s : State) (p : ℕ) → still (cascade s p) ≡ still s
+unfolding cascade
+cascade-still s p =
+    loop-keeps (λ t. t count) (λ t. ready t p) (λ t. fifo-one t p) (λ t. still t ≡ still s)
+    (λ t m _ _ _ e. fifo-one-still t p m ∙ e) (s count - s (fifo-length p)) s refl
+
+-- ---- one store, as a choice between two values
+-- the cell d is c just when the test says so
+pub put-pick : (s : State) (c d : Cell) (v : ℕ) (b : Bool) → (b ≡ true → c ≡ d) → (c ≡ d → b ≡ true)
+    → put s c v d ≡ pick b v (s d)
+put-pick s c d v b to from = go (bool-cases b)
+  where
+    go : (b ≡ true) ⊎ (b ≡ false) → put s c v d ≡ pick b v (s d)
+    go (inl e) = put-same s c d v (to e) ∙ sym (pick-yes v (s d) e)
+    go (inr e) = put-other s c d v (λ x. clash (from x) e) ∙ sym (pick-no v (s d) e)
+
+-- ---- deliveries on views
+-- f with v at i
+abbrev pub at-place : (ℕ → ℕ) → ℕ → ℕ → ℕ → ℕ
+at-place f i v j = pick (eqb i j) v (f j)
+
+-- A process after the FIFO delivery of m: m stands last in the FIFO log, next of its sender has risen.
+unfoldable pub fifo-delivered : Messages → Process → ℕ → Process
+fifo-delivered w r m = record {
+  group = r .group;
+  fifo-length = r .fifo-length + 1;
+  fifo = at-place (r .fifo) (r .fifo-length) m;
+  causal-length = r .causal-length;
+  causal = r .causal;
+  next = at-place (r .next) (w .sender m) (r .next (w .sender m) + 1);
+  delivered = r .delivered;
+  counter = r .counter;
+  sequence = r .sequence;
+}
+
+-- A process after the causal delivery of m: m stands last in the causal log, del of its sender is m's number
+-- among the sender's messages, the counters are the larger ones.
+unfoldable pub causal-delivered : Messages → Process → ℕ → Process
+causal-delivered w r m = record {
+  group = r .group;
+  fifo-length = r .fifo-length;
+  fifo = r .fifo;
+  causal-length = r .causal-length + 1;
+  causal = at-place (r .causal) (r .causal-length) m;
+  next = r .next;
+  delivered = at-place (r .delivered) (w .sender m) (w .stamp m (r .group) (w .sender m));
+  counter = λ g q. max (r .counter g q) (w .stamp m g q);
+  sequence = r .sequence;
+}
+
+-- the part of a turn before the causal deliveries
+abbrev pub fifo-started : State → ℕ → ℕ → State
+fifo-started s p m = raised-next (appended s p m) p (s (sender m))
+
+-- p's record then is that of the FIFO delivery
+pub fifo-started-here : (s : State) (p m : ℕ)
+    → process (fifo-started s p m) p ≡ fifo-delivered (messages s) (process s p) m
+unfolding raised-next appended put fifo-delivered
+fifo-started-here s p m = λ j. record {
+  group = s (group p);
+  fifo-length = put-same s (fifo-length p) (fifo-length p) (s (fifo-length p) + 1) refl j;
+  fifo = λ i. put-pick s (fifo p (s (fifo-length p))) (fifo p i) m (eqb (s (fifo-length p)) i)
+      (λ e. ap (fifo p) (eqb-true (s (fifo-length p)) i e)) (λ e. eq-eqb (s (fifo-length p)) i (cc)) j;
+  causal-length = s (causal-length p);
+  causal = λ i. s (causal p i);
+  next =
+      λ q. put-pick s (next p (s (sender m))) (next p q) (s (next p (s (sender m))) + 1)
+      (eqb (s (sender m)) q)
+      (λ e. ap (next p) (eqb-true (s (sender m)) q e)) (λ e. eq-eqb (s (sender m)) q (cc)) j;
+  delivered = λ q. s (delivered p q);
+  counter = λ g q. s (counter p g q);
+  sequence = λ g. s (sequence p g);
+}
+
+-- every other record is as it was
+pub fifo-started-there : (s : State) (p m r : ℕ) → p ≢ r → process (fifo-started s p m) r ≡ process s r
+unfolding raised-next appended put
+fifo-started-there s p m r n = λ j. record {
+  group = s (group r);
+  fifo-length = put-other s (fifo-length p) (fifo-length r) (s (fifo-length p) + 1) (λ e. n (cc)) j;
+  fifo = λ i. put-other s (fifo p (s (fifo-length p))) (fifo r i) m (λ e. n (cc)) j;
+  causal-length = s (causal-length r);
+  causal = λ i. s (causal r i);
+  next = λ q. put-other s (next p (s (sender m))) (next r q) (s (next p (s (sender m))) + 1) (λ e. n (cc)) j;
+  delivered = λ q. s (delivered r q);
+  counter = λ g q. s (counter r g q);
+  sequence = λ g. s (sequence r g);
+}
+
+-- and so is what no part writes
+pub fifo-started-still : (s : State) (p m : ℕ) → still (fifo-started s p m) ≡ still s
+fifo-started-still s p m = next-still (appended s p m) p (s (sender m)) ∙ appended-still s p m
+
+-- and so are the letters
+pub fifo-started-letters : (s : State) (p m : ℕ) → letters (fifo-started s p m) ≡ letters s
+unfolding raised-next appended put
+fifo-started-letters s p m = refl
+
+-- ---- causal deliveries
+pub causal-one-here : (s : State) (p i : ℕ)
+    → process (causal-one s p i) p ≡ causal-delivered (messages s) (process s p) (s (fifo p i))
+unfolding causal-one merge with-tables put causal-delivered
+causal-one-here s p i = λ j. record {
+  group = s (group p);
+  fifo-length = s (fifo-length p);
+  fifo = λ k. s (fifo p k);
+  causal-length = put-same s (causal-length p) (causal-length p) (s (causal-length p) + 1) refl j;
+  causal =
+      λ k. put-pick s (causal p (s (causal-length p))) (causal p k) (s (fifo p i))
+      (eqb (s (causal-length p)) k)
+      (λ e. ap (causal p) (eqb-true (s (causal-length p)) k e)) (λ e. eq-eqb (s (causal-length p)) k (cc)) j;
+  next = λ q. s (next p q);
+  delivered = λ q.
+      (let o : ℕ = s (sender (s (fifo p i))) in
+      put-pick s (delivered p o) (delivered p q) (s (stamp (s (fifo p i)) (s (group p)) o)) (eqb o q)
+      (λ e. ap (delivered p) (eqb-true o q e)) (λ e. eq-eqb o q (cc)) j);
+  counter =
+      λ g q. pick-yes (max (s (counter p g q)) (s (stamp (s (fifo p i)) g q))) (s (counter p g q))
+      (eqb-refl p) j;
+  sequence = λ g. s (sequence p g);
+}
+
+-- every other record is as it was
+pub causal-one-there : (s : State) (p i r : ℕ) → p ≢ r → process (causal-one s p i) r ≡ process s r
+unfolding causal-one merge with-tables put
+causal-one-there s p i r n = λ j. record {
+  group = s (group r);
+  fifo-length = s (fifo-length r);
+  fifo = λ k. s (fifo r k);
+  causal-length = put-other s (causal-length p) (causal-length r) (s (causal-length p) + 1) (λ e. n (cc)) j;
+  causal = λ k. put-other s (causal p (s (causal-length p))) (causal r k) (s (fifo p i)) (λ e. n (cc)) j;
+  next = λ q. s (next r q);
+  delivered = λ q.
+      (let o : ℕ = s (sender (s (fifo p i))) in
+      put-other s (delivered p o) (delivered r q) (s (stamp (s (fifo p i)) (s (group p)) o)) (λ e. n (cc)) j);
+  counter =
+      λ g q. pick-no (max (s (counter r g q)) (s (stamp (s (fifo p i)) g q))) (s (counter r g q))
+      (ne-eqb p r n) j;
+  sequence = λ g. s (sequence r g);
+}
+
+-- a causal delivery sends no letter
+causal-one-letters : (s : State) (p i : ℕ) → letters (causal-one s p i) ≡ letters s
+unfolding causal-one merge with-tables put
+causal-one-letters s p i = refl
+
+-- all of them leave every other record
+pub causal-all-there : (s : State) (p r : ℕ) → p ≢ r → process (causal-all s p) r ≡ process s r
+causal-all-there s p r n = causal-all-keeps (λ t. process t r) p (λ t i. causal-one-there t p i r n) s
+
+-- and send no letter
+pub causal-all-letters : (s : State) (p : ℕ) → letters (causal-all s p) ≡ letters s
+causal-all-letters s p = causal-all-keeps letters p (λ t i. causal-one-letters t p i) s
+
+-- what of p's own record the causal deliveries leave: the FIFO side
+pub record Front : Type 0 where
+  pub group : ℕ
+  pub fifo-length : ℕ
+  pub fifo : ℕ → ℕ
+  pub next : ℕ → ℕ
+
+-- the FIFO side of p in s
+abbrev pub front : State → ℕ → Front
+front s p = record {
+  group = s (group p);
+  fifo-length = s (fifo-length p);
+  fifo = λ i. s (fifo p i);
+  next = λ q. s (next p q);
+}
+
+-- a causal delivery leaves it
+causal-one-front : (s : State) (p i : ℕ) → front (causal-one s p i) p ≡ front s p
+unfolding causal-one merge with-tables put
+causal-one-front s p i = refl
+
+-- and so do all of them
+pub causal-all-front : (s : State) (p : ℕ) → front (causal-all s p) p ≡ front s p
+causal-all-front s p = causal-all-keeps (λ t. front t p) p (λ t i. causal-one-front t p i) s
+
+-- ---- a turn: next may rise before the causal deliveries
+-- the state of a turn before its OKs
+abbrev pub fifo-middle : State → ℕ → ℕ → State
+fifo-middle s p m = causal-all (fifo-started s p m) p
+
+-- a turn is its middle, then the OKs
+pub fifo-one-is : (s : State) (p m : ℕ)
+    → fifo-one s p m ≡ send-oks (fifo-middle s p m) p (s (sender m)) (fifo-middle s p m count)
+unfolding fifo-one
+fifo-one-is s p m =
+    ap (λ (t : State). send-oks t p (s (sender m)) (t count))
+    (sym (next-before (appended s p m) p (s (sender m))))
+
+-- the OKs change no record
+pub fifo-one-process : (s : State) (p m r : ℕ) → process (fifo-one s p m) r ≡ process (fifo-middle s p m) r
+fifo-one-process s p m r =
+    ap (λ (t : State). process t r) (fifo-one-is s p m)
+    ∙ oks-process (fifo-middle s p m) p (s (sender m)) (fifo-middle s p m count) r
+
+-- a turn at p leaves every other record
+pub fifo-one-there : (s : State) (p m r : ℕ) → p ≢ r → process (fifo-one s p m) r ≡ process s r
+fifo-one-there s p m r n =
+    fifo-one-process s p m r ∙ causal-all-there (fifo-started s p m) p r n ∙ fifo-started-there s p m r n
+
+-- the middle of a turn leaves what no part writes
+pub fifo-middle-still : (s : State) (p m : ℕ) → still (fifo-middle s p m) ≡ still s
+fifo-middle-still s p m = causal-all-still (fifo-started s p m) p ∙ fifo-started-still s p m
+
+-- ---- the letters of a turn
+-- what p owes, and to whom, looks at what a cascade keeps, and at next
+due-same : (s t : State) (p q m : ℕ) → still t ≡ still s → process t p ≡ process s p
+    → due t p q m ≡ due s p q m
+unfolding due
+due-same s t p q m e f =
+    ap₂ (λ (v : Still) (r : Process). eqb (v .held p m) 1 && eqb (v .ground .messages .sender m) q
+    && eqb (v .ground .messages .number m (v .ground .group p)) (r .next (v .ground .messages .sender m))) e f
+
+-- the addressees look at size, masks and groups
+pub addressees-same : (s t : State) (m : ℕ) → ground t ≡ ground s → addressees t m ≡ addressees s m
+addressees-same s t m e =
+    ap (λ (v : Ground). mask-of (v .size) (λ q. bit (v .messages .mask m) (v .group q))) e
+
+-- the letter of kind k for m from r is one of the OKs that p owes for the messages of q below n
+abbrev pub ok-due : State → ℕ → ℕ → ℕ → ℕ → ℕ → ℕ → Bool
+ok-due s p q n m k r = both (both (eqb 2 k) (eqb p r)) (both (ltb m n) (due s p q m))
+
+-- one more message, where the letter is not its OK
+below-more : (m n : ℕ) → n ≢ m → ltb m n ≡ ltb m (suc n)
+below-more m n ne = go (ltb m n) refl
+  where
+    go : (b : Bool) → ltb m n ≡ b → b ≡ ltb m (suc n)
+    go true e = let l = ltb-true m n e in sym (lt-ltb m (suc n) (omega arith))
+    go false e = let l = ltb-false m n e in sym (le-ltb m (suc n) (omega arith))
+
+-- a test that fails in one part
+none : (a b c : Bool) → (b ≡ false) ⊎ (c ≡ false) → both a (both b c) ≡ false
+none false b c z = refl
+none true b c (inl e) = rw e
+none true true c (inr e) = e
+none true false c (inr e) = refl
+
+-- after the OKs for the messages below n
+pub oks-letters : (s : State) (p q n m k r : ℕ)
+    → send-oks s p q n (flight m k r) ≡ pick (ok-due s p q n m k r) (addressees s m) (s (flight m k r))
+unfolding send-oks send-ok
+oks-letters s p q zero m k r =
+    sym (pick-no (addressees s m) (s (flight m k r))
+    (none (both (eqb 2 k) (eqb p r)) (ltb m 0) (due s p q m) (inl (le-ltb m 0 (omega arith)))))
+oks-letters s p q (suc n) m k r = go (due t p q n) refl (oks-letters s p q n m k r)
+  where
+    t : State
+    t = send-oks s p q n
+
+    owed : Bool → ℕ
+    owed b = pick b (addressees s m) (s (flight m k r))
+
+    due-is : due (send-oks s p q n) p q n ≡ due s p q n
+    due-is = due-same s (send-oks s p q n) p q n (oks-still s p q n) (oks-process s p q n p)
+
+    -- the letter is the OK for n just when its test passes
+    same-letter : both (eqb n m) (both (eqb 2 k) (eqb p r)) ≡ true
+        → _≡_ {A = Cell} (flight n 2 p) (flight m k r)
+    same-letter e =
+        let a = eqb-true n m (both-l (eqb n m) (both (eqb 2 k) (eqb p r)) e) in
+        let z = both-r (eqb n m) (both (eqb 2 k) (eqb p r)) e in
+        let b = eqb-true 2 k (both-l (eqb 2 k) (eqb p r) z) in
+        let c = eqb-true p r (both-r (eqb 2 k) (eqb p r) z) in
+        cc
+
+    letter-same : _≡_ {A = Cell} (flight n 2 p) (flight m k r)
+        → both (eqb n m) (both (eqb 2 k) (eqb p r)) ≡ true
+    letter-same e =
+        both-i (eqb n m) (both (eqb 2 k) (eqb p r)) (eq-eqb n m (cc))
+        (both-i (eqb 2 k) (eqb p r) (eq-eqb 2 k (cc)) (eq-eqb p r (cc)))
+
+    wider : (a b : Bool) → eqb n m ≡ a → both (eqb 2 k) (eqb p r) ≡ b → both a b ≡ false
+        → both b (both (ltb m n) (due s p q m)) ≡ both b (both (ltb m (suc n)) (due s p q m))
+    wider a false e f z = refl
+    wider false true e f z =
+        ap (λ (x : Bool). both x (due s p q m)) (below-more m n (λ d. clash (eq-eqb n m d) e))
+    wider true true e f z = clash {b = true} refl z
+
+    go : (b : Bool) → due (send-oks s p q n) p q n ≡ b
+        → send-oks s p q n (flight m k r) ≡ pick (ok-due s p q n m k r) (addressees s m) (s (flight m k r))
+        → pick b (put (send-oks s p q n) (flight n 2 p) (addressees (send-oks s p q n) n)) (send-oks s p q n)
+        (flight m k r)
+        ≡ pick (ok-due s p q (suc n) m k r) (addressees s m) (s (flight m k r))
+    go b e ih = at-letter b (sym due-is ∙ e) (bool-cases (both (eqb n m) (both (eqb 2 k) (eqb p r))))
+      where
+        at-letter : (b : Bool) → due s p q n ≡ b
+            → (both (eqb n m) (both (eqb 2 k) (eqb p r)) ≡ true)
+            ⊎ (both (eqb n m) (both (eqb 2 k) (eqb p r)) ≡ false)
+            → pick b (put (send-oks s p q n) (flight n 2 p) (addressees (send-oks s p q n) n))
+            (send-oks s p q n) (flight m k r)
+            ≡ pick (ok-due s p q (suc n) m k r) (addressees s m) (s (flight m k r))
+        at-letter true d (inl x) =
+            let z = both-r (eqb n m) (both (eqb 2 k) (eqb p r)) x in
+            let nm = eqb-true n m (both-l (eqb n m) (both (eqb 2 k) (eqb p r)) x) in
+            put-same (send-oks s p q n) (flight n 2 p) (flight m k r) (addressees (send-oks s p q n) n)
+            (same-letter x)
+            ∙ addressees-same s (send-oks s p q n) n (ap (λ (v : Still). v .ground) (oks-still s p q n))
+            ∙ ap (addressees s) nm
+            ∙ sym (pick-yes (addressees s m) (s (flight m k r))
+            (both-i (both (eqb 2 k) (eqb p r)) (both (ltb m (suc n)) (due s p q m)) z
+            (both-i (ltb m (suc n)) (due s p q m) (lt-ltb m (suc n) (omega arith))
+            (ap (due s p q) (sym nm) ∙ d))))
+        at-letter false d (inl x) =
+            let nm = eqb-true n m (both-l (eqb n m) (both (eqb 2 k) (eqb p r)) x) in
+            let no : due s p q m ≡ false = ap (due s p q) (sym nm) ∙ d in
+            ih ∙ ap owed (none (both (eqb 2 k) (eqb p r)) (ltb m n) (due s p q m) (inr no)
+            ∙ sym (none (both (eqb 2 k) (eqb p r)) (ltb m (suc n)) (due s p q m) (inr no)))
+        at-letter true d (inr x) =
+            put-other (send-oks s p q n) (flight n 2 p) (flight m k r) (addressees (send-oks s p q n) n)
+            (λ e. clash (letter-same e) x)
+            ∙ ih ∙ ap owed (wider (eqb n m) (both (eqb 2 k) (eqb p r)) refl refl x)
+        at-letter false d (inr x) = ih ∙ ap owed (wider (eqb n m) (both (eqb 2 k) (eqb p r)) refl refl x)
+
+-- the OKs of a turn are those owed in its middle, and no other letter has changed
+pub fifo-one-letters : (s : State) (p m x k r : ℕ) → fifo-one s p m (flight x k r)
+    ≡ pick (ok-due (fifo-middle s p m) p (s (sender m)) (fifo-middle s p m count) x k r) (addressees s x)
+    (s (flight x k r))
+fifo-one-letters s p m x k r =
+    let u : State = fifo-middle s p m in
+    ap (λ (t : State). t (flight x k r)) (fifo-one-is s p m) ∙ oks-letters u p (s (sender m)) (u count) x k r
+    ∙ ap₂ (pick (ok-due u p (s (sender m)) (u count) x k r))
+    (addressees-same s u x (ap (λ (v : Still). v .ground) (fifo-middle-still s p m)))
+    (ap (λ (f : ℕ → ℕ → ℕ → ℕ). f x k r)
+    (causal-all-letters (fifo-started s p m) p ∙ fifo-started-letters s p m))
+
+-- ---- p's FIFO side after a turn: m stands last in the FIFO log, next of its sender has risen
+abbrev pub turned : State → ℕ → ℕ → Front
+turned t p m = record {
+  group = t (group p);
+  fifo-length = t (fifo-length p) + 1;
+  fifo = at-place (λ i. t (fifo p i)) (t (fifo-length p)) m;
+  next = at-place (λ q. t (next p q)) (t (sender m)) (t (next p (t (sender m))) + 1);
+}
+
+-- the FIFO side of a record
+abbrev front-of : Process → Front
+front-of r = record { group = r .group; fifo-length = r .fifo-length; fifo = r .fifo; next = r .next }
+
+-- p's FIFO side in the middle of a turn
+pub fifo-middle-front : (t : State) (p m : ℕ) → front (fifo-middle t p m) p ≡ turned t p m
+unfolding fifo-delivered
+fifo-middle-front t p m = causal-all-front (fifo-started t p m) p ∙ ap front-of (fifo-started-here t p m)
+
+-- and after it
+pub fifo-one-front : (t : State) (p m : ℕ) → front (fifo-one t p m) p ≡ turned t p m
+fifo-one-front t p m = ap front-of (fifo-one-process t p m p) ∙ fifo-middle-front t p m
+
+-- next of any process after a turn: as it was, or p's of m's sender, one more
+pub next-cases : (t : State) (p m r q : ℕ) → (fifo-one t p m (next r q) ≡ t (next r q))
+    ⊎ ((p ≡ r) × (t (sender m) ≡ q) × (fifo-one t p m (next r q) ≡ t (next r q) + 1))
+next-cases t p m r q = go (ℕ-discrete p r) (ℕ-discrete (t (sender m)) q)
+  where
+    here : fifo-one t p m (next p q)
+        ≡ at-place (λ x. t (next p x)) (t (sender m)) (t (next p (t (sender m))) + 1) q
+    here = ap (λ (v : Front). v .next q) (fifo-one-front t p m)
+
+    go : Dec (p ≡ r) → Dec (t (sender m) ≡ q) → (fifo-one t p m (next r q) ≡ t (next r q))
+        ⊎ ((p ≡ r) × (t (sender m) ≡ q) × (fifo-one t p m (next r q) ≡ t (next r q) + 1))
+    go (no n) d = inl (ap (λ (v : Process). v .next q) (fifo-one-there t p m r n))
+    go (yes e) (no n) =
+        inl (subst (λ (v : ℕ). fifo-one t p m (next v q) ≡ t (next v q)) e
+        (here ∙ pick-no _ (t (next p q)) (ne-eqb (t (sender m)) q n)))
+    go (yes e) (yes d) =
+        inr (
+          e,
+          d,
+          subst (λ (v : ℕ). fifo-one t p m (next v q) ≡ t (next v q) + 1) e
+              (here ∙ pick-yes _ (t (next p q)) (eq-eqb (t (sender m)) q d)
+              ∙ ap (λ (x : ℕ). t (next p x) + 1) d),
+        )
+
+-- next of m's sender at p has risen
+pub raised : (t : State) (p m : ℕ) → fifo-one t p m (next p (t (sender m))) ≡ t (next p (t (sender m))) + 1
+raised t p m =
+    ap (λ (v : Front). v .next (t (sender m))) (fifo-one-front t p m)
+    ∙ pick-yes _ (t (next p (t (sender m)))) (eqb-refl (t (sender m)))
+
+-- ---- the OKs of a turn, as facts
+-- the letter of kind k for x from r is a new OK: p holds x, of the same sender as m, and the number is next
+-- as it is now
+pub record NewOk (t : State) (p m x k r : ℕ) : Type 0 where
+  pub is-ok : 2 ≡ k
+  pub by : p ≡ r
+  pub low : x < t count
+  pub has : t (held p x) ≡ 1
+  pub of : t (sender x) ≡ t (sender m)
+  pub turn : t (number x (t (group p))) ≡ t (next p (t (sender m))) + 1
+
+module _ (t : State) (p m x : ℕ) where
+  -- the state before the OKs, and what is owed in it
+  mid-sender : fifo-middle t p m (sender x) ≡ t (sender x)
+  mid-sender = ap (λ (v : Still). v .ground .messages .sender x) (fifo-middle-still t p m)
+
+  -- its number at p
+  mid-number : fifo-middle t p m (number x (fifo-middle t p m (group p))) ≡ t (number x (t (group p)))
+  mid-number =
+      ap (λ (v : Still). v .ground .messages .number x (v .ground .group p)) (fifo-middle-still t p m)
+
+  -- whether p holds it
+  mid-held : fifo-middle t p m (held p x) ≡ t (held p x)
+  mid-held = ap (λ (v : Still). v .held p x) (fifo-middle-still t p m)
+
+  -- the count
+  mid-count : fifo-middle t p m count ≡ t count
+  mid-count = ap (λ (v : Still). v .ground .messages .total) (fifo-middle-still t p m)
+
+  -- next of m's sender has risen
+  mid-next : t (sender x) ≡ t (sender m)
+      → fifo-middle t p m (next p (fifo-middle t p m (sender x))) ≡ t (next p (t (sender m))) + 1
+  mid-next e =
+      ap (λ (q : ℕ). fifo-middle t p m (next p q)) (mid-sender ∙ e)
+      ∙ ap (λ (v : Front). v .next (t (sender m))) (fifo-middle-front t p m)
+      ∙ pick-yes _ (t (next p (t (sender m)))) (eqb-refl (t (sender m)))
+
+  -- an OK that is owed is a new one
+  owed-facts : (k r : ℕ) → ok-due (fifo-middle t p m) p (t (sender m)) (fifo-middle t p m count) x k r ≡ true
+      → NewOk t p m x k r
+  unfolding due
+  owed-facts k r e =
+      let u : State = fifo-middle t p m in
+      let q : ℕ = t (sender m) in
+      let d : Bool = due u p q x in
+      let a = both-l (both (eqb 2 k) (eqb p r)) (both (ltb x (u count)) d) e in
+      let z = both-r (both (eqb 2 k) (eqb p r)) (both (ltb x (u count)) d) e in
+      let h = both-r (ltb x (u count)) d z in
+      let hs = both-l (both (eqb (u (held p x)) 1) (eqb (u (sender x)) q)) (in-turn u p x) h in
+      let of = sym mid-sender
+      ∙ eqb-true (u (sender x)) q (both-r (eqb (u (held p x)) 1) (eqb (u (sender x)) q) hs) in
+      record {
+        is-ok = eqb-true 2 k (both-l (eqb 2 k) (eqb p r) a);
+        by = eqb-true p r (both-r (eqb 2 k) (eqb p r) a);
+        low = omega (arith, ltb-true x (u count) (both-l (ltb x (u count)) d z), mid-count);
+        has = sym mid-held
+            ∙ eqb-true (u (held p x)) 1 (both-l (eqb (u (held p x)) 1) (eqb (u (sender x)) q) hs);
+        of = of;
+        turn = sym mid-number
+            ∙ eqb-true (u (number x (u (group p)))) (u (next p (u (sender x))))
+            (both-r (both (eqb (u (held p x)) 1) (eqb (u (sender x)) q)) (in-turn u p x) h)
+            ∙ mid-next of;
+      }
+
+  -- and a new one is owed
+  owed-is : NewOk t p m x 2 p
+      → ok-due (fifo-middle t p m) p (t (sender m)) (fifo-middle t p m count) x 2 p ≡ true
+  unfolding due
+  owed-is o =
+      let u : State = fifo-middle t p m in
+      rw (
+        eqb-refl p,
+        lt-ltb x (u count) (omega (arith, o .low, mid-count)),
+        eq-eqb (u (held p x)) 1 (mid-held ∙ o .has),
+        eq-eqb (u (sender x)) (t (sender m)) (mid-sender ∙ o .of),
+      ) (eq-eqb (u (number x (u (group p)))) (u (next p (u (sender x))))
+      (mid-number ∙ o .turn ∙ sym (mid-next (o .of))))
+
+  -- a new OK flies to all addressees
+  pub ok-sent : NewOk t p m x 2 p → fifo-one t p m (flight x 2 p) ≡ addressees t x
+  ok-sent o = fifo-one-letters t p m x 2 p ∙ pick-yes (addressees t x) (t (flight x 2 p)) (owed-is o)
+
+  -- a letter of the turn is a new OK, or flies as it did
+  pub letter-cases : (k r : ℕ) → (NewOk t p m x k r × (fifo-one t p m (flight x k r) ≡ addressees t x))
+      ⊎ (fifo-one t p m (flight x k r) ≡ t (flight x k r))
+  letter-cases k r = go (bool-cases owed)
+    where
+      owed : Bool
+      owed = ok-due (fifo-middle t p m) p (t (sender m)) (fifo-middle t p m count) x k r
+
+      go : (ok-due (fifo-middle t p m) p (t (sender m)) (fifo-middle t p m count) x k r ≡ true)
+          ⊎ (ok-due (fifo-middle t p m) p (t (sender m)) (fifo-middle t p m count) x k r ≡ false)
+          → (NewOk t p m x k r × (fifo-one t p m (flight x k r) ≡ addressees t x))
+          ⊎ (fifo-one t p m (flight x k r) ≡ t (flight x k r))
+      go (inl e) =
+          inl (owed-facts k r e, fifo-one-letters t p m x k r ∙ pick-yes (addressees t x) (t (flight x k r)) e)
+      go (inr e) = inr (fifo-one-letters t p m x k r ∙ pick-no (addressees t x) (t (flight x k r)) e)
+
+-- ---- in turn
+-- x is in turn at r, or past it
+abbrev pub Near : State → ℕ → ℕ → Type 0
+Near s x r = s (number x (s (group r))) ≤ s (next r (s (sender x)))
+
+module _ (t : State) (p m x r : ℕ) where
+  -- a turn leaves its number
+  pub turn-number : fifo-one t p m (number x (fifo-one t p m (group r))) ≡ t (number x (t (group r)))
+  turn-number = ap (λ (s : Still). s .ground .messages .number x (s .ground .group r)) (fifo-one-still t p m)
+
+  -- next of its sender, as it is after the turn
+  pub turn-next : fifo-one t p m (next r (fifo-one t p m (sender x))) ≡ fifo-one t p m (next r (t (sender x)))
+  turn-next =
+      ap (λ (q : ℕ). fifo-one t p m (next r q))
+      (ap (λ (s : Still). s .ground .messages .sender x) (fifo-one-still t p m))
+
+  -- what was in turn or past it still is
+  pub near-on : Near t x r → Near (fifo-one t p m) x r
+  near-on h = elim (next-cases t p m r (t (sender x))) [
+    | inl a ↦ omega (arith, turn-number, turn-next, a)
+    | inr a ↦ omega (arith, turn-number, turn-next, a .2)
+  ]
+
+-- a message with a new OK was out of turn before the delivery
+pub ok-far :
+    (t : State) (p m x k r : ℕ) →
+    NewOk t p m x k r → t (next p (t (sender x))) < t (number x (t (group p)))
+ok-far t p m x k r o = omega (arith, o .turn, ap (λ (q : ℕ). t (next p q)) (o .of))
+
+-- and is in turn after it
+pub ok-near : (t : State) (p m x k r : ℕ) → NewOk t p m x k r → Near (fifo-one t p m) x p
+ok-near t p m x k r o =
+    omega (
+      arith,
+      o .turn,
+      turn-number t p m x p,
+      turn-next t p m x p,
+      raised t p m,
+      ap (λ (q : ℕ). fifo-one t p m (next p q)) (o .of),
+    )

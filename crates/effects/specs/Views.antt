@@ -1,0 +1,83 @@
+-- Views of a state: the records of all messages, the own record of one process, the letters in flight, and
+-- what no cascade changes. Two states with the same view agree on all its cells, so that what is said of a
+-- view need not be said again of each state. Assumes nothing.
+use Prim.Native.Nat.{ℕ}
+use Rattle.world.specs.World.{size, count, group, trust, counter, sequence, next, delivered, up, fifo-length, causal-length, held, marks, fifo, causal, sender, mask, stamp, number, flight, State}
+
+-- ---- the messages: how many, and of each its sender, mask, counters and sequence numbers
+pub record Messages : Type 0 where
+  pub total : ℕ
+  pub sender : ℕ → ℕ
+  pub mask : ℕ → ℕ
+  pub stamp : ℕ → ℕ → ℕ → ℕ
+  pub number : ℕ → ℕ → ℕ
+
+-- the messages of a state
+abbrev pub messages : State → Messages
+messages s = record {
+  total = s count;
+  sender = λ m. s (sender m);
+  mask = λ m. s (mask m);
+  stamp = λ m g q. s (stamp m g q);
+  number = λ m g. s (number m g);
+}
+
+-- ---- one process: its group, its two logs, its arrays
+pub record Process : Type 0 where
+  pub group : ℕ
+  pub fifo-length : ℕ
+  pub fifo : ℕ → ℕ
+  pub causal-length : ℕ
+  pub causal : ℕ → ℕ
+  pub next : ℕ → ℕ
+  pub delivered : ℕ → ℕ
+  pub counter : ℕ → ℕ → ℕ
+  pub sequence : ℕ → ℕ
+
+-- the record of p in a state
+abbrev pub process : State → ℕ → Process
+process s p = record {
+  group = s (group p);
+  fifo-length = s (fifo-length p);
+  fifo = λ i. s (fifo p i);
+  causal-length = s (causal-length p);
+  causal = λ i. s (causal p i);
+  next = λ q. s (next p q);
+  delivered = λ q. s (delivered p q);
+  counter = λ g q. s (counter p g q);
+  sequence = λ g. s (sequence p g);
+}
+
+-- ---- the letters in flight: of message m, kind k and origin q, the receivers
+abbrev pub letters : State → ℕ → ℕ → ℕ → ℕ
+letters s m k q = s (flight m k q)
+
+-- ---- what neither a cascade nor an arrival changes: how many processes, the messages, who is in which
+-- group, whom a
+-- process trusts, whether it is up
+pub record Ground : Type 0 where
+  pub size : ℕ
+  pub messages : Messages
+  pub group : ℕ → ℕ
+  pub trust : ℕ → ℕ
+  pub up : ℕ → ℕ
+
+-- the ground of a state
+abbrev pub ground : State → Ground
+ground s = record {
+  size = s size;
+  messages = messages s;
+  group = λ p. s (group p);
+  trust = λ p. s (trust p);
+  up = λ p. s (up p);
+}
+
+-- ---- what no cascade changes: besides these, what a process holds and which marks it has
+pub record Still : Type 0 where
+  pub ground : Ground
+  pub held : ℕ → ℕ → ℕ
+  pub marks : ℕ → ℕ → ℕ
+
+-- what no cascade changes, of a state
+abbrev pub still : State → Still
+still s = record { ground = ground s; held = λ p m. s (held p m); marks = λ p m. s (marks p m) }

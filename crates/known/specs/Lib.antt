@@ -1,0 +1,4 @@
+pub mod Runs
+pub mod Words
+pub mod Carried
+pub mod Lost

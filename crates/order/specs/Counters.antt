@@ -1,0 +1,330 @@
+-- What the counters mean, over the view of the messages: C[g][q] on a message counts the messages of q to g
+-- that are before it, its s[g] is its place among its sender's messages to g; C[g][q] of a process counts
+-- those in its past. A delivery takes the larger of two counts, and both count prefixes of q's messages, so
+-- that is the count of the union. A multicast counts one more, and only what the new message is. Assumes
+-- nothing.
+use mathlib.Core.Path.{_≡_, refl, sym, ap, ap₂, _∙_, subst}
+use mathlib.Core.Bool.{Bool, true, false}
+use mathlib.Core.Logic.{_⊎_, inl, inr, _≢_}
+use Prim.Native.Nat.{ℕ, suc, _+_, _≤_, _<_, max}
+use native.Mathlib.Omega.{arith}
+use native.Mathlib.Numerals.{add-one}
+use native.Mathlib.Decide.{ℕ-discrete}
+use lib.Dec.{eqb}
+use borrow.Author.Tests.{eqb-true, ne-eqb}
+use Rattle.base.specs.Tests.{bool-cases, le-or-lt, clash, pick, both, either, both-l, both-r, both-i, eqb-refl}
+use Rattle.base.specs.Count.{tally, tally-mono, tally-cong, tally-falls, tally-max}
+use Rattle.base.specs.Bits.{bit}
+use Rattle.world.specs.History.{sent, got}
+use Rattle.effects.specs.Views.{Messages}
+use Rattle.order.specs.Knowledge.{Knowledge, learn, Closed, closed-got, before-new, before-old, before-own, closed-sent}
+
+-- ---- counts
+-- m is to group g
+abbrev pub To : Messages → ℕ → ℕ → Type 0
+To w g m = bit (w .mask m) g ≡ true
+
+-- x is a message of q to g
+abbrev pub of-to : Messages → ℕ → ℕ → ℕ → Bool
+of-to w q g x = both (eqb (w .sender x) q) (bit (w .mask x) g)
+
+-- it is of q
+pub of : (w : Messages) (q g x : ℕ) → of-to w q g x ≡ true → w .sender x ≡ q
+of w q g x e = eqb-true (w .sender x) q (both-l (eqb (w .sender x) q) (bit (w .mask x) g) e)
+
+-- it is to g
+pub to : (w : Messages) (q g x : ℕ) → of-to w q g x ≡ true → To w g x
+to w q g x e = both-r (eqb (w .sender x) q) (bit (w .mask x) g) e
+
+-- how many of q's messages to g a set has, and how many there are
+abbrev pub counted : Messages → (ℕ → Bool) → ℕ → ℕ → ℕ
+counted w f q g = tally (w .total) (λ x. both (f x) (of-to w q g x))
+
+-- all of them
+abbrev pub all-of : Messages → ℕ → ℕ → ℕ
+all-of w q g = tally (w .total) (of-to w q g)
+
+-- ---- the meaning of the counters and sequence numbers on messages
+pub record Counting (n : ℕ) (w : Messages) (k : Knowledge) : Type 0 where
+  pub closed : Closed (w .total) (w .sender) k
+  pub senders : (m : ℕ) → m < w .total → w .sender m < n
+  pub stamps : (m g q : ℕ) → m < w .total → w .stamp m g q ≡ counted w (k .before m) q g
+  pub numbers : (m g : ℕ) → m < w .total → w .number m g ≡ w .stamp m g (w .sender m)
+
+module _ {n : ℕ} {w : Messages} {k : Knowledge} (c : Counting n w k) where
+  -- more is before m than before x, if x is before m
+  part-of : (m x g q : ℕ) → k .before m x ≡ true → (y : ℕ) → both (k .before x y) (of-to w q g y) ≡ true
+      → both (k .before m y) (of-to w q g y) ≡ true
+  part-of m x g q b y e =
+      both-i (k .before m y) (of-to w q g y)
+      (c .closed .before-chain m x y b (both-l (k .before x y) (of-to w q g y) e))
+      (both-r (k .before x y) (of-to w q g y) e)
+
+  -- so its counters are at most those of m
+  pub stamp-le : (m x g q : ℕ) → k .before m x ≡ true → w .stamp x g q ≤ w .stamp m g q
+  stamp-le m x g q b =
+      let hm = c .closed .before-low m x b in
+      let hx = c .closed .before-le m x b in
+      let l =
+      tally-mono (w .total) (λ y. both (k .before m y) (of-to w q g y))
+      (λ y. both (k .before x y) (of-to w q g y))
+      (λ y _. part-of m x g q b y) in
+      omega (arith, c .stamps m g q hm, c .stamps x g q (omega arith))
+
+  -- the earlier messages of the same sender are before m
+  pub sender-before : (m x : ℕ) → m < w .total → x ≤ m → w .sender x ≡ w .sender m → k .before m x ≡ true
+  sender-before m x h l e = c .closed .before-prefix m m x (c .closed .before-self m h) l e
+
+  -- so a sender's numbers rise
+  pub stamp-lt : (m x g : ℕ) → m < w .total → x < m → w .sender x ≡ w .sender m → To w g m
+      → w .stamp x g (w .sender m) < w .stamp m g (w .sender m)
+  stamp-lt m x g h l e t =
+      let b = sender-before m x h (omega arith) e in
+      let z =
+      tally-falls (w .total) (λ y. both (k .before m y) (of-to w q g y))
+      (λ y. both (k .before x y) (of-to w q g y))
+      (part-of m x g q b) m h
+      (both-i (k .before m m) (of-to w q g m) (c .closed .before-self m h)
+      (both-i (eqb q q) (bit (w .mask m) g) (eqb-refl q) t))
+      (above (bool-cases (both (k .before x m) (of-to w q g m)))) in
+      omega (arith, c .stamps m g q h, c .stamps x g q (omega arith))
+    where
+      q : ℕ
+      q = w .sender m
+
+      above : (both (k .before x m) (of-to w (w .sender m) g m) ≡ true)
+          ⊎ (both (k .before x m) (of-to w (w .sender m) g m) ≡ false)
+          → both (k .before x m) (of-to w (w .sender m) g m) ≡ false
+      above (inr z) = z
+      above (inl z) =
+          absurd
+          (omega (arith, c .closed .before-le x m (both-l (k .before x m) (of-to w (w .sender m) g m) z)))
+
+  -- a message's counters count some of all
+  pub stamp-most : (m g q : ℕ) → m < w .total → w .stamp m g q ≤ all-of w q g
+  stamp-most m g q h =
+      let l = tally-mono (w .total) (of-to w q g) (λ y. both (k .before m y) (of-to w q g y))
+      (λ y _ e. both-r (k .before m y) (of-to w q g y) e) in
+      omega (arith, c .stamps m g q h)
+
+  -- all of a process's own messages are in its past
+  pub own-all : (p g : ℕ) → counted w (k .past p) p g ≡ all-of w p g
+  own-all p g =
+      tally-cong (w .total) (λ x. both (k .past p x) (of-to w p g x)) (of-to w p g)
+      (λ x h. mine x h (of-to w p g x) refl)
+    where
+      mine : (x : ℕ) → x < w .total → (b : Bool) → of-to w p g x ≡ b → both (k .past p x) b ≡ b
+      mine x h false e = go (k .past p x)
+        where
+          go : (b : Bool) → both b false ≡ false
+          go true = refl
+          go false = refl
+      mine x h true e =
+          both-i (k .past p x) true
+          (subst (λ (z : ℕ). k .past z x ≡ true) (of w p g x e) (c .closed .past-own x h)) refl
+
+-- ---- a delivery
+union : (a b d : Bool) → both (either b a) d ≡ either (both a d) (both b d)
+union true true true = refl
+union true true false = refl
+union true false true = refl
+union true false false = refl
+union false true d = refl
+union false false d = refl
+
+module _ {n : ℕ} {w : Messages} {k : Knowledge} (c : Counting n w k) (p m : ℕ) where
+  pub counting-got : Counting n w (learn (got p m) k)
+  counting-got = record {
+    closed = closed-got p m (c .closed);
+    senders = c .senders;
+    stamps = c .stamps;
+    numbers = c .numbers;
+  }
+
+  -- of two prefixes of q's messages the larger is the union
+  union-count : (q g : ℕ) → max (counted w (k .past p) q g) (counted w (k .before m) q g)
+      ≡ counted w (λ x. either (k .before m x) (k .past p x)) q g
+  union-count q g =
+      tally-max (w .total) (λ x. both (k .past p x) (of-to w q g x))
+      (λ x. both (k .before m x) (of-to w q g x))
+      (λ x. both (either (k .before m x) (k .past p x)) (of-to w q g x))
+      (λ x. union (k .past p x) (k .before m x) (of-to w q g x))
+      (λ i j f d e. go i j f d e (le-or-lt i j))
+    where
+      sender-of : (f : ℕ → Bool) (i : ℕ) → both (f i) (of-to w q g i) ≡ true → w .sender i ≡ q
+      sender-of f i e = of w q g i (both-r (f i) (of-to w q g i) e)
+
+      go : (i j : ℕ) → both (k .past p i) (of-to w q g i) ≡ true
+          → both (k .before m i) (of-to w q g i) ≡ false
+          → both (k .before m j) (of-to w q g j) ≡ true → (i ≤ j) ⊎ (j < i)
+          → both (k .past p j) (of-to w q g j) ≡ true
+      go i j f d e (inl l) = clash
+          (both-i (k .before m i) (of-to w q g i)
+          (c .closed .before-prefix m j i (both-l (k .before m j) (of-to w q g j) e) l
+          (sender-of (k .past p) i f ∙ sym (sender-of (k .before m) j e)))
+          (both-r (k .past p i) (of-to w q g i) f)) d
+      go i j f d e (inr l) =
+          both-i (k .past p j) (of-to w q g j)
+          (c .closed .past-prefix p i j (both-l (k .past p i) (of-to w q g i) f) (omega arith)
+          (sender-of (k .before m) j e ∙ sym (sender-of (k .past p) i f)))
+          (both-r (k .before m j) (of-to w q g j) e)
+
+  -- the counters of p after its delivery of m, and of another process
+  pub counter-here : m < w .total → (g q v : ℕ) → v ≡ counted w (k .past p) q g
+      → max v (w .stamp m g q) ≡ counted w (learn (got p m) k .past p) q g
+  counter-here h g q v e =
+      ap₂ max e (c .stamps m g q h) ∙ union-count q g
+      ∙ sym
+      (ap (λ (b : Bool). counted w (λ x. either (both b (k .before m x)) (k .past p x)) q g) (eqb-refl p))
+
+  -- the counters of another process are as they were
+  pub counter-there : (r g q v : ℕ) → p ≢ r → v ≡ counted w (k .past r) q g
+      → v ≡ counted w (learn (got p m) k .past r) q g
+  counter-there r g q v d e =
+      e
+      ∙ sym
+      (ap (λ (b : Bool). counted w (λ x. either (both b (k .before m x)) (k .past r x)) q g)
+      (ne-eqb p r d))
+
+-- ---- a multicast
+-- w′ is w with one message more, of p to the groups of a mask; C and b of p were raised before they were
+-- copied onto it
+pub record OneMore (w : Messages) (k : Knowledge) (p groups : ℕ) (w′ : Messages) : Type 0 where
+  pub total : w′ .total ≡ w .total + 1
+  pub old-sender : (x : ℕ) → x < w .total → w′ .sender x ≡ w .sender x
+  pub old-mask : (x : ℕ) → x < w .total → w′ .mask x ≡ w .mask x
+  pub old-stamp : (x g q : ℕ) → x < w .total → w′ .stamp x g q ≡ w .stamp x g q
+  pub old-number : (x g : ℕ) → x < w .total → w′ .number x g ≡ w .number x g
+  pub new-sender : w′ .sender (w .total) ≡ p
+  pub new-mask : w′ .mask (w .total) ≡ groups
+  pub new-stamp : (g q : ℕ) → w′ .stamp (w .total) g q
+      ≡ pick (both (eqb p q) (bit groups g)) (suc (counted w (k .past p) q g)) (counted w (k .past p) q g)
+  pub new-number : (g : ℕ) → w′ .number (w .total) g ≡ w′ .stamp (w .total) g p
+
+-- one number more
+tally-more : (n m : ℕ) (f : ℕ → Bool) → m ≡ n + 1 → tally m f ≡ pick (f n) (suc (tally n f)) (tally n f)
+unfolding tally
+tally-more n m f e = ap (λ (k : ℕ). tally k f) (e ∙ add-one n)
+
+module _ {n : ℕ} {w : Messages} {k : Knowledge} {p groups : ℕ} {w′ : Messages} (c : Counting n w k)
+    (o : OneMore w k p groups w′) where
+  of-to-old : (q g x : ℕ) → x < w .total → of-to w′ q g x ≡ of-to w q g x
+  of-to-old q g x h = rw (o .old-sender x h, o .old-mask x h)
+
+  -- the new message is of p, to the groups of the mask
+  of-to-new : (q g : ℕ) → of-to w′ q g (w .total) ≡ both (eqb p q) (bit groups g)
+  of-to-new q g = rw (o .new-sender, o .new-mask)
+
+  -- a set that has of the old messages those of f, and the new one as b says
+  counted-more : (f f′ : ℕ → Bool) (b : Bool) → f′ (w .total) ≡ b → ((x : ℕ) → x < w .total → f′ x ≡ f x)
+      → (q g : ℕ)
+      → counted w′ f′ q g
+      ≡ pick (both b (both (eqb p q) (bit groups g))) (suc (counted w f q g)) (counted w f q g)
+  counted-more f f′ b e h q g =
+      let t = tally-cong (w .total) (λ x. both (f′ x) (of-to w′ q g x)) (λ x. both (f x) (of-to w q g x))
+      (λ x l. ap₂ both (h x l) (of-to-old q g x l)) in
+      tally-more (w .total) (w′ .total) (λ x. both (f′ x) (of-to w′ q g x)) (o .total)
+      ∙ ap₂ (λ (z : Bool) (v : ℕ). pick z (suc v) v) (ap₂ both e (of-to-new q g)) t
+
+  -- all of them, with the new message
+  pub all-more : (q g : ℕ)
+      → all-of w′ q g ≡ pick (both (eqb p q) (bit groups g)) (suc (all-of w q g)) (all-of w q g)
+  all-more q g =
+      tally-more (w .total) (w′ .total) (of-to w′ q g) (o .total)
+      ∙ ap₂ (λ (z : Bool) (v : ℕ). pick z (suc v) v) (of-to-new q g)
+      (tally-cong (w .total) (of-to w′ q g) (of-to w q g) (of-to-old q g))
+
+  -- none is lost
+  pub all-grows : (q g : ℕ) → all-of w q g ≤ all-of w′ q g
+  all-grows q g = go (both (eqb p q) (bit groups g)) (all-more q g)
+    where
+      go : (b : Bool) → all-of w′ q g ≡ pick b (suc (all-of w q g)) (all-of w q g)
+          → all-of w q g ≤ all-of w′ q g
+      go true e = omega arith
+      go false e = omega arith
+
+  -- what was before an older message still is
+  pub before-same : (m x : ℕ) → m < w .total → learn (sent p (w .total)) k .before m x ≡ k .before m x
+  before-same m x h = before-old p (c .closed) m x (omega arith)
+
+  -- the new message's number is above that of all its sender's messages
+  pub new-above : (g : ℕ) → bit groups g ≡ true → w′ .stamp (w .total) g p ≡ suc (all-of w p g)
+  new-above g t = o .new-stamp g p ∙ rw (eqb-refl p, t) (ap suc (own-all c p g))
+
+  -- a set that has only old messages
+  without-new : (f : ℕ → Bool) → ((x : ℕ) → f x ≡ true → x < w .total) → f (w .total) ≡ false
+  without-new f low = go (bool-cases (f (w .total)))
+    where
+      go : (f (w .total) ≡ true) ⊎ (f (w .total) ≡ false) → f (w .total) ≡ false
+      go (inl e) = absurd (omega (arith, low (w .total) e))
+      go (inr e) = e
+
+  -- the counters on the messages are right after it
+  pub counting-sent : p < n → Counting n w′ (learn (sent p (w .total)) k)
+  counting-sent hp = record {
+    closed =
+        subst (λ (t : ℕ). Closed t (w′ .sender) (learn (sent p (w .total)) k))
+        (sym (o .total ∙ add-one (w .total)))
+        (closed-sent p (c .closed) (w′ .sender) (o .old-sender) (o .new-sender));
+    senders = λ m h. sender-at m h (ℕ-discrete (w .total) m);
+    stamps = λ m g q h. stamp-at m g q h (ℕ-discrete (w .total) m);
+    numbers = λ m g h. number-at m g h (ℕ-discrete (w .total) m);
+  }
+    where
+      lower : (m : ℕ) → m < w′ .total → w .total ≢ m → m < w .total
+      lower m h e = omega (arith, o .total)
+
+      sender-at : (m : ℕ) → m < w′ .total → Dec (w .total ≡ m) → w′ .sender m < n
+      sender-at m h (yes e) = subst (λ (z : ℕ). w′ .sender z < n) e (rw (o .new-sender) hp)
+      sender-at m h (no e) = rw (o .old-sender m (lower m h e)) (c .senders m (lower m h e))
+
+      number-at : (m g : ℕ) → m < w′ .total → Dec (w .total ≡ m)
+          → w′ .number m g ≡ w′ .stamp m g (w′ .sender m)
+      number-at m g h (yes e) =
+          subst (λ (z : ℕ). w′ .number z g ≡ w′ .stamp z g (w′ .sender z)) e
+          (o .new-number g ∙ ap (w′ .stamp (w .total) g) (sym (o .new-sender)))
+      number-at m g h (no e) =
+          let l = lower m h e in
+          o .old-number m g l ∙ c .numbers m g l ∙ sym (o .old-stamp m g (w .sender m) l)
+          ∙ ap (w′ .stamp m g) (sym (o .old-sender m l))
+
+      fresh-past : (x : ℕ) → x < w .total → learn (sent p (w .total)) k .before (w .total) x ≡ k .past p x
+      fresh-past x h = before-new p (c .closed) (w .total) x refl ∙ rw (ne-eqb (w .total) x (omega arith))
+
+      stamp-at : (m g q : ℕ) → m < w′ .total → Dec (w .total ≡ m)
+          → w′ .stamp m g q ≡ counted w′ (learn (sent p (w .total)) k .before m) q g
+      stamp-at m g q h (yes e) =
+          subst (λ (z : ℕ). w′ .stamp z g q ≡ counted w′ (learn (sent p (w .total)) k .before z) q g) e
+          (o .new-stamp g q
+          ∙ sym (counted-more (k .past p) (learn (sent p (w .total)) k .before (w .total)) true
+          (before-own p (c .closed) (w .total) (w .total) refl (inl refl)) fresh-past q g))
+      stamp-at m g q h (no e) =
+          let l = lower m h e in
+          o .old-stamp m g q l ∙ c .stamps m g q l
+          ∙ sym (counted-more (k .before m) (learn (sent p (w .total)) k .before m) false
+          (before-same m (w .total) l
+          ∙ without-new (k .before m) (λ x b. omega (arith, c .closed .before-le m x b)))
+          (λ x _. before-same m x l) q g)
+
+  -- the counters of a process after it
+  pub counter-sent : (r g q v : ℕ) → v ≡ counted w (k .past r) q g
+      → pick (both (eqb p r) (both (eqb p q) (bit groups g))) (suc v) v
+      ≡ counted w′ (learn (sent p (w .total)) k .past r) q g
+  counter-sent r g q v e =
+      ap (λ (z : ℕ). pick (both (eqb p r) (both (eqb p q) (bit groups g))) (suc z) z) e
+      ∙ sym (counted-more (k .past r) (learn (sent p (w .total)) k .past r) (eqb p r) at-new at-old q g)
+    where
+      at-new : learn (sent p (w .total)) k .past r (w .total) ≡ eqb p r
+      at-new =
+          rw (eqb-refl (w .total), without-new (k .past r) (λ x b. c .closed .past-low r x b)) (go (eqb p r))
+        where
+          go : (b : Bool) → either (both b true) false ≡ b
+          go true = refl
+          go false = refl
+
+      at-old : (x : ℕ) → x < w .total → learn (sent p (w .total)) k .past r x ≡ k .past r x
+      at-old x h = rw (ne-eqb (w .total) x (omega arith)) (go (eqb p r))
+        where
+          go : (b : Bool) → either (both b false) (k .past r x) ≡ k .past r x
+          go true = refl
+          go false = refl

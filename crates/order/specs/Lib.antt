@@ -1,0 +1,7 @@
+pub mod Knowledge
+pub mod Precedence
+pub mod Counters
+pub mod Logs
+pub mod Cascade
+pub mod Runs
+pub mod Order

@@ -1,0 +1,260 @@
+-- The order of the logs, for every run: conclusions 1 and 2 of demand 3, and what others cite: uniform
+-- integrity, FIFO order, what each counter means, no repeats in either log. Conclusion 1 from right to left:
+-- among the messages of the FIFO log outside the causal one that are m or before m, the lowest has all that
+-- is before it in the causal log, so del lets it in, and nothing was left to deliver. Assumes nothing.
+use mathlib.Core.Path.{_≡_, sym, ap, _∙_, subst}
+use mathlib.Core.Bool.{true}
+use mathlib.Core.List.{List}
+use mathlib.Core.Logic.{_⊎_, inl, inr, _≢_, _↔_}
+use Prim.Native.Nat.{ℕ, _+_, _≤_, _<_}
+use native.Mathlib.Omega.{arith}
+use native.Mathlib.Decide.{ℕ-discrete}
+use Rattle.base.specs.Tests.{le-or-lt, strong, both, both-l, both-r, both-i}
+use Rattle.base.specs.Count.{tally-mono, Last, never, last-at, last-of, In, in-at}
+use Rattle.world.specs.World.{count, group, counter, sequence, next, delivered, fifo-length, causal-length, fifo, causal, sender, stamp, number, State}
+use Rattle.world.specs.Machine.{addressed}
+use Rattle.world.specs.Setup.{setup-refusal}
+use Rattle.world.specs.History.{Event, sent, At, Before, Run, Item, on-states, run, started}
+use Rattle.effects.specs.Views.{Messages, messages, Process}
+use Rattle.order.specs.Knowledge.{Knowledge, knowledge}
+use Rattle.order.specs.Precedence.{Cast, cast-at, cast-there, precedes-before, before-precedes}
+use Rattle.order.specs.Counters.{To, of-to, of, to, counted, all-of, Counting, sender-before}
+use Rattle.order.specs.Logs.{FifoLogOf, CausalLog, waits, Stuck, Quiet}
+use Rattle.order.specs.Cascade.{MeaningOf}
+use Rattle.order.specs.Runs.{Whole, whole-started, whole-run}
+
+-- ---- conclusion 1 from right to left, over the views
+module _ {n : ℕ} {w : Messages} {k : Knowledge} {r : Process} (c : Counting n w k) (f : FifoLogOf w r)
+    (o : CausalLog w (k .before) r) (quiet : Quiet n w r) where
+  -- all that is before m and to the group is in the FIFO log
+  abbrev PastIn : ℕ → Type 0
+  PastIn m = (x : ℕ) → k .before m x ≡ true → x ≢ m → To w (r .group) x → In (r .fifo-length) (r .fifo) x
+
+  -- what is in the causal log is counted by del
+  in-del : (x : ℕ) → In (r .causal-length) (r .causal) x
+      → w .stamp x (r .group) (w .sender x) ≤ r .delivered (w .sender x)
+  in-del x (in-at j hj e) =
+      subst (λ (y : ℕ). w .stamp y (r .group) (w .sender y) ≤ r .delivered (w .sender y)) e
+      (omega (arith, o .prefix .in-below j hj))
+
+  -- if all that is before m and to the group is in the causal log, m waits for nobody
+  module _ (m : ℕ) (hm : m < w .total)
+      (all : (x : ℕ) → k .before m x ≡ true → x ≢ m → To w (r .group) x
+      → In (r .causal-length) (r .causal) x) where
+    -- of the messages of q before m and to the group, the last has del count them all
+    no-wait : (q : ℕ) → q ≢ w .sender m → w .stamp m (r .group) q ≤ r .delivered q
+    no-wait q ne = go (last-of (w .total) (λ x. both (k .before m x) (of-to w q g x)))
+      where
+        g : ℕ
+        g = r .group
+
+        go : Last (w .total) (λ x. both (k .before m x) (of-to w q (r .group) x))
+            → w .stamp m (r .group) q ≤ r .delivered q
+        go (never z) = omega (arith, c .stamps m g q hm)
+        go (last-at x hx p top) =
+            let bx = both-l (k .before m x) (of-to w q g x) p in
+            let cx = both-r (k .before m x) (of-to w q g x) p in
+            let sx = of w q g x cx in
+            let less =
+            tally-mono (w .total) (λ y. both (k .before x y) (of-to w q g y))
+            (λ y. both (k .before m y) (of-to w q g y))
+            (λ y hy py.
+            let cy = both-r (k .before m y) (of-to w q g y) py in
+            both-i (k .before x y) (of-to w q g y)
+            (sender-before c x y hx (top y hy py) (of w q g y cy ∙ sym sx)) cy) in
+            let dx = in-del x (all x bx (λ y. ne (sym sx ∙ ap (w .sender) y)) (to w q g x cx)) in
+            omega (
+              arith,
+              less,
+              c .stamps m g q hm,
+              c .stamps x g q hx,
+              dx,
+              ap (λ (y : ℕ). w .stamp x g y) sx,
+              ap (r .delivered) sx,
+            )
+
+  -- what is in the FIFO log, with all that is before it, is in the causal log
+  pub all-delivered : (m : ℕ) → In (r .fifo-length) (r .fifo) m → PastIn m
+      → In (r .causal-length) (r .causal) m
+  all-delivered =
+      strong (λ m. In (r .fifo-length) (r .fifo) m → PastIn m → In (r .causal-length) (r .causal) m) one
+    where
+      one : (m : ℕ)
+          → ((y : ℕ) → y < m → In (r .fifo-length) (r .fifo) y → PastIn y
+          → In (r .causal-length) (r .causal) y)
+          → In (r .fifo-length) (r .fifo) m → PastIn m → In (r .causal-length) (r .causal) m
+      one m ih (in-at i hi e) past = go (quiet i hi)
+        where
+          all : (x : ℕ) → k .before m x ≡ true → x ≢ m → To w (r .group) x
+              → In (r .causal-length) (r .causal) x
+          all x b ne t =
+              let l = c .closed .before-le m x b in
+              ih x (omega arith) (past x b ne t) (λ y b′ ne′ t′.
+              let l′ = c .closed .before-le x y b′ in
+              past y (c .closed .before-chain m x y b b′) (omega arith) t′)
+
+          go : Stuck n w r (r .fifo i) → In (r .causal-length) (r .causal) m
+          go (inl a) = subst (In (r .causal-length) (r .causal)) e a
+          go (inr (waits q hq ne lt)) =
+              absurd (omega (
+                arith,
+                no-wait m (subst (λ (y : ℕ). y < w .total) e (f .old i hi)) all q
+                    (λ y. ne (y ∙ ap (w .sender) (sym e))),
+                ap (λ (y : ℕ). w .stamp y (r .group) q) e,
+              ))
+
+-- ---- the logs of a state
+-- "A process has FIFO-delivered or causally delivered exactly the messages in its log of that name"
+abbrev pub Fifo : State → ℕ → ℕ → Type 0
+Fifo s p m = In (s (fifo-length p)) (λ i. s (fifo p i)) m
+
+-- the same of the causal log
+abbrev pub Causal : State → ℕ → ℕ → Type 0
+Causal s p m = In (s (causal-length p)) (λ i. s (causal p i)) m
+
+-- ---- the two conclusions
+module _ {r : Run State} (w : Whole r) (p : ℕ) where
+  -- x precedes m exactly when it is before m, and not m
+  to-before : (x m : ℕ) → Before (r .seen) x m → (knowledge (r .seen) .before m x ≡ true) × (x ≢ m)
+  to-before x m b = precedes-before (r .seen) (r .now count) (w .formed) x m b
+
+  -- conclusion 1, from left to right
+  pub causal-past : (m : ℕ) → Causal (r .now) p m
+      → Fifo (r .now) p m
+      × ((x : ℕ) → Before (r .seen) x m → addressed (r .now) x p ≡ true → Fifo (r .now) p x)
+  causal-past m (in-at i h e) =
+      let o = w .meaning .causals p in (
+        subst (Fifo (r .now) p) e (o .in-fifo i h),
+        λ x b t. (let y = to-before x m b in
+            elim (o .order i x h (subst (λ (z : ℕ). knowledge (r .seen) .before z x ≡ true) (sym e) (y .0))
+            (λ d. y .1 (d ∙ e)) t) [
+              | in-at j l d ↦ subst (Fifo (r .now) p) d (o .in-fifo j (omega arith))
+            ]),
+      )
+
+  -- and from right to left
+  pub past-causal : (m : ℕ) → Fifo (r .now) p m
+      → ((x : ℕ) → Before (r .seen) x m → addressed (r .now) x p ≡ true → Fifo (r .now) p x)
+      → Causal (r .now) p m
+  past-causal m f all =
+      all-delivered (w .meaning .counting) (w .meaning .fifos p) (w .meaning .causals p) (w .quiet p) m f
+      (λ x b ne t. all x (before-precedes (r .seen) (r .now count) (w .formed) x m b ne) t)
+
+  -- conclusion 2: no causal log holds a message twice
+  pub causal-once : (i j : ℕ) → i < j → j < r .now (causal-length p)
+      → r .now (causal p i) ≢ r .now (causal p j)
+  causal-once = w .meaning .causals p .once
+
+  -- or ahead of one that precedes it
+  pub causal-ordered : (i j : ℕ) → i < r .now (causal-length p) → j < r .now (causal-length p)
+      → Before (r .seen) (r .now (causal p j)) (r .now (causal p i)) → j < i
+  causal-ordered i j hi hj b =
+      let o = w .meaning .causals p in
+      let y = to-before (r .now (causal p j)) (r .now (causal p i)) b in
+      go (o .order i (r .now (causal p j)) hi (y .0) (y .1) (to-p (o .in-fifo j hj)))
+    where
+      to-p : Fifo (r .now) p (r .now (causal p j)) → addressed (r .now) (r .now (causal p j)) p ≡ true
+      to-p (in-at l h e) =
+          subst (λ (z : ℕ). addressed (r .now) z p ≡ true) e (w .meaning .fifos p .to-group l h)
+
+      go : In i (λ l. r .now (causal p l)) (r .now (causal p j)) → j < i
+      go (in-at l h e) = same-place (ℕ-discrete l j) (le-or-lt l j)
+        where
+          same-place : Dec (l ≡ j) → (l ≤ j) ⊎ (j < l) → j < i
+          same-place (yes q) v = omega arith
+          same-place (no q) (inl v) = absurd (causal-once l j (omega arith) hj e)
+          same-place (no q) (inr v) = absurd (causal-once j l v (omega arith) (sym e))
+
+  -- ---- the FIFO logs
+  -- FIFO order: the earlier messages of the same sender to its group stand ahead in the FIFO log of p
+  pub fifo-order : (i x : ℕ) → i < r .now (fifo-length p) → x < r .now (fifo p i)
+      → r .now (sender x) ≡ r .now (sender (r .now (fifo p i))) → addressed (r .now) x p ≡ true
+      → In i (λ j. r .now (fifo p j)) x
+  fifo-order = w .meaning .fifos p .order
+
+  -- the second conclusion for the FIFO logs: no FIFO log holds a message twice
+  pub fifo-once : (i j : ℕ) → i < j → j < r .now (fifo-length p) → r .now (fifo p i) ≢ r .now (fifo p j)
+  fifo-once = w .meaning .fifos p .once
+
+-- p multicast m
+pub data Multicast (es : List Event) (p m : ℕ) : Type 0 where
+  multicast-at : (i : ℕ) → At es i (sent p m) → Multicast es p m
+
+-- every message was multicast by its sender
+pub was-multicast : {r : Run State} → Whole r → (m : ℕ) → m < r .now count
+    → Multicast (r .seen) (r .now (sender m)) m
+was-multicast {r} w m h = go (cast-there (r .seen) (w .formed) m h)
+  where
+    go : Cast (r .seen) m → Multicast (r .seen) (r .now (sender m)) m
+    go (cast-at i q a) =
+        multicast-at i (subst (λ (z : ℕ). At (r .seen) i (sent z m)) (sym (w .senders i q m a)) a)
+
+-- ---- uniform integrity: a process delivers a message at most once, only one that was multicast, and only to
+-- an addressee
+pub record Integrity (s : State) (es : List Event) (p : ℕ) : Type 0 where
+  pub fifo-multicast : (i : ℕ) → i < s (fifo-length p)
+      → Multicast es (s (sender (s (fifo p i)))) (s (fifo p i))
+  pub fifo-addressee : (i : ℕ) → i < s (fifo-length p) → addressed s (s (fifo p i)) p ≡ true
+  pub fifo-at-most-once : (i j : ℕ) → i < j → j < s (fifo-length p) → s (fifo p i) ≢ s (fifo p j)
+  pub causal-in-fifo : (i : ℕ) → i < s (causal-length p) → Fifo s p (s (causal p i))
+  pub causal-at-most-once : (i j : ℕ) → i < j → j < s (causal-length p) → s (causal p i) ≢ s (causal p j)
+
+-- of every process after every run
+pub uniform-integrity : {r : Run State} → Whole r → (p : ℕ) → Integrity (r .now) (r .seen) p
+uniform-integrity {r} w p = record {
+  fifo-multicast = λ i h. was-multicast w (r .now (fifo p i)) (w .meaning .fifos p .old i h);
+  fifo-addressee = w .meaning .fifos p .to-group;
+  fifo-at-most-once = w .meaning .fifos p .once;
+  causal-in-fifo = w .meaning .causals p .in-fifo;
+  causal-at-most-once = w .meaning .causals p .once;
+}
+
+-- ---- what each counter means. The past of p, and what is before m, are those of the history (Knowledge).
+pub record CounterMeaning (s : State) (k : Knowledge) : Type 0 where
+  -- C[g][q] of p: the messages of q to g in p's past; b[g] of p: all of p's messages to g
+  pub counters : (p g q : ℕ) → s (counter p g q) ≡ counted (messages s) (k .past p) q g
+  pub sequences : (p g : ℕ) → s (sequence p g) ≡ all-of (messages s) p g
+  -- C[g][q] on m: the messages of q to g before m, m included; s[g] on m: those of m's sender
+  pub stamps : (m g q : ℕ) → m < s count → s (stamp m g q) ≡ counted (messages s) (k .before m) q g
+  pub numbers : (m g : ℕ) → m < s count → s (number m g) ≡ counted (messages s) (k .before m) (s (sender m)) g
+  -- next[q] of p: p has FIFO-delivered a message to its group exactly when the number is below it
+  pub nexts : (p m : ℕ) → m < s count → addressed s m p ≡ true
+      → Fifo s p m ↔ (s (number m (s (group p))) < s (next p (s (sender m))))
+  -- del[q] of p: p has causally delivered a message to its group exactly when the number is at most it
+  pub dels : (p m : ℕ) → m < s count → addressed s m p ≡ true
+      → Causal s p m ↔ (s (number m (s (group p))) ≤ s (delivered p (s (sender m))))
+
+-- of every run
+pub counter-meaning : {r : Run State} → Whole r → CounterMeaning (r .now) (knowledge (r .seen))
+counter-meaning {r} w = record {
+  counters = o .counters;
+  sequences = o .sequences;
+  stamps = o .counting .stamps;
+  numbers = λ m g h. o .counting .numbers m g h ∙ o .counting .stamps m g (r .now (sender m)) h;
+  nexts = λ p m h t. (
+    (λ f. let b = below 1 (λ x. r .now (next p x)) (r .now (group p)) f (o .fifos p .prefix .in-below) in
+        omega (arith, b, o .counting .numbers m (r .now (group p)) h)),
+    (λ l. o .fifos p .prefix .below-in m h t (omega (arith, o .counting .numbers m (r .now (group p)) h))),
+  );
+  dels = λ p m h t. (
+    (λ f. let b = below 0 (λ x. r .now (delivered p x)) (r .now (group p)) f
+        (o .causals p .prefix .in-below) in
+        omega (arith, b, o .counting .numbers m (r .now (group p)) h)),
+    (λ l. o .causals p .prefix .below-in m h t (omega (arith, o .counting .numbers m (r .now (group p)) h))),
+  );
+}
+  where
+    o : MeaningOf (r .now) (r .seen)
+    o = w .meaning
+
+    below : (e : ℕ) (bound : ℕ → ℕ) (g : ℕ) {n m : ℕ} {log : ℕ → ℕ} → In n log m
+        → ((i : ℕ) → i < n
+        → e + r .now (stamp (log i) g (r .now (sender (log i)))) ≤ bound (r .now (sender (log i))))
+        → e + r .now (stamp m g (r .now (sender m))) ≤ bound (r .now (sender m))
+    below e bound g (in-at i l d) h =
+        subst (λ (x : ℕ). e + r .now (stamp x g (r .now (sender x))) ≤ bound (r .now (sender x))) d (h i l)
+
+-- ---- for every setup record that is taken and every list of items
+pub reached : (setup : List ℕ) (items : List Item) → setup-refusal setup ≡ 0
+    → Whole (run on-states (started setup) items)
+reached setup items ok = whole-run (started setup) items (whole-started setup ok)

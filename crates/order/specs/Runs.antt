@@ -1,0 +1,398 @@
+-- What holds of every run: its state is sound, its counters and logs mean what Meaning says of its history,
+-- nothing is left to deliver causally, and each message is multicast once in the history, in the order of the
+-- numbers. A step at a process changes that process's own record in its cascade and no other; a multicast
+-- adds a message, which no process has delivered. Assumes nothing.
+use mathlib.Core.Path.{_≡_, refl, sym, ap, _∙_, subst}
+use mathlib.Core.Bool.{Bool, true, false}
+use mathlib.Core.List.{List, [], _∷_}
+use mathlib.Core.Logic.{_⊎_, inl, inr, _≢_}
+use Prim.Native.Nat.{ℕ, zero, suc, _+_, _-_, _<_}
+use native.Mathlib.Omega.{arith}
+use native.Mathlib.Numerals.{add-one}
+use native.Mathlib.Nat.{not-suc-le-zero}
+use native.Mathlib.Decide.{ℕ-discrete}
+use lib.Dec.{eqb, ltb}
+use borrow.Author.Tests.{ne-eqb}
+use Rattle.base.specs.Tests.{pick, pick-yes, pick-no, pick-le, both, eqb-refl}
+use Rattle.base.specs.Count.{tally}
+use Rattle.base.specs.Bits.{bit}
+use Rattle.world.specs.World.{size, count, trust, counter, sequence, causal-length, causal, sender, mask, stamp, number, up, State, put}
+use Rattle.world.specs.Layout.{put-same, put-other}
+use Rattle.world.specs.Sound.{Sound}
+use Rattle.world.specs.Setup.{byte, fresh, setup-group, setup-refusal, made}
+use Rattle.world.specs.Machine.{with-tables, cascade, raised, stamped, numbered, posted, multicast, leave, arrival, trust-set, crash}
+use Rattle.world.specs.Steps.{Step, multicasts, arrives, loses, trusts, crashes, malformed, read, accepted, step}
+use Rattle.world.specs.StepLaws.{accepted-multicast, accepted-arrival, accepted-trust, lowest-moves}
+use Rattle.world.specs.Settle.{lowest}
+use Rattle.world.specs.SettleLaws.{settle-keeps}
+use Rattle.world.specs.History.{Event, sent, At, deliveries, grown, gained, on-states, Run, Item, given, settling, taken, tick, settles, act, run, started}
+use Rattle.keeps.specs.Keeps.{fresh-sound, step-sound}
+use Rattle.effects.specs.Views.{Messages, messages, Process, ground, Ground, Still}
+use Rattle.effects.specs.Views.{process as own}
+use Rattle.effects.specs.Arrival.{arrived, arrived-process, arrived-ground}
+use Rattle.effects.specs.Holding.{HeldTo, arrived-held, trusted-held, chosen-accepted}
+use Rattle.order.specs.Knowledge.{knowledge, closed-fresh}
+use Rattle.order.specs.Precedence.{Formed, Newest, at-cases, no-event, old-cast, cast-low}
+use Rattle.order.specs.Counters.{own-all, OneMore, counting-sent, counter-sent, all-more}
+use Rattle.order.specs.Logs.{fifo-log-sent, causal-log-sent, quiet-sent}
+use Rattle.order.specs.Cascade.{MeaningOf, QuietOf, meaning-same, quiet-same, Cascading, cascade-end}
+
+-- ---- the invariant of a run
+-- a state and its history
+abbrev pub with-history : State → List Event → Run State
+with-history s es = record { now = s; seen = es }
+
+pub record Whole (r : Run State) : Type 0 where
+  pub sound : Sound (r .now)
+  pub meaning : MeaningOf (r .now) (r .seen)
+  pub quiet : QuietOf (r .now)
+  pub formed : Formed (r .now count) (r .seen)
+  -- who multicast a message is its sender
+  pub senders : (i q m : ℕ) → At (r .seen) i (sent q m) → r .now (sender m) ≡ q
+
+-- ---- the events of a step
+formed-deliveries : (n p a k : ℕ) (log : ℕ → ℕ) (es : List Event) → Formed n es
+    → Formed n (deliveries p a k log es)
+unfolding deliveries
+formed-deliveries n p a zero log es h = h
+formed-deliveries n p a (suc k) log es h = formed-deliveries n p a k log es h
+
+-- the events of a step add no multicast
+formed-gained : (n k : ℕ) (s t : State) (es : List Event) → Formed n es → Formed n (gained k s t es)
+unfolding gained
+formed-gained n zero s t es h = h
+formed-gained n (suc k) s t es h =
+    formed-deliveries n k (s (causal-length k)) (t (causal-length k) - s (causal-length k))
+    (λ i. t (causal k i))
+    (gained k s t es) (formed-gained n k s t es h)
+
+-- so a multicast of a longer history is one of the shorter
+at-deliveries : (p a k : ℕ) (log : ℕ → ℕ) (es : List Event) {i q m : ℕ}
+    → At (deliveries p a k log es) i (sent q m)
+    → At es i (sent q m)
+unfolding deliveries
+at-deliveries p a zero log es x = x
+at-deliveries p a (suc k) log es x = at-deliveries p a k log es (old-cast x)
+
+-- the same of a step
+at-gained : (k : ℕ) (s t : State) (es : List Event) {i q m : ℕ} → At (gained k s t es) i (sent q m)
+    → At es i (sent q m)
+unfolding gained
+at-gained zero s t es x = x
+at-gained (suc k) s t es x =
+    at-gained k s t es
+    (at-deliveries k (s (causal-length k)) (t (causal-length k) - s (causal-length k)) (λ i. t (causal k i))
+    (gained k s t es) x)
+
+-- a log that has not grown gives none
+grown-none : (p : ℕ) (s t : State) (es : List Event) → t (causal-length p) ≡ s (causal-length p)
+    → grown p (s (causal-length p)) t es ≡ es
+unfolding deliveries
+grown-none p s t es e =
+    let z : t (causal-length p) - s (causal-length p) ≡ 0 = omega arith in
+    ap (λ (n : ℕ). deliveries p (s (causal-length p)) n (λ i. t (causal p i)) es) z
+
+-- logs that have not grown give none
+gained-none : (n : ℕ) (s t : State) (es : List Event)
+    → ((r : ℕ) → r < n → t (causal-length r) ≡ s (causal-length r))
+    → gained n s t es ≡ es
+unfolding gained
+gained-none zero s t es h = refl
+gained-none (suc n) s t es h =
+    ap (grown n (s (causal-length n)) t) (gained-none n s t es (λ r l. h r (omega arith)))
+    ∙ grown-none n s t es (h n (omega arith))
+
+-- where only the log of p has grown
+gained-one : (n p : ℕ) (s t : State) (es : List Event) → p < n
+    → ((r : ℕ) → p ≢ r → t (causal-length r) ≡ s (causal-length r))
+    → gained n s t es ≡ grown p (s (causal-length p)) t es
+unfolding gained
+gained-one zero p s t es l h = absurd (not-suc-le-zero l)
+gained-one (suc n) p s t es l h = go (ℕ-discrete p n) (λ k. gained-one n p s t es k h)
+  where
+    go : Dec (p ≡ n) → (p < n → gained n s t es ≡ grown p (s (causal-length p)) t es)
+        → grown n (s (causal-length n)) t (gained n s t es) ≡ grown p (s (causal-length p)) t es
+    go (yes e) ih =
+        ap (grown n (s (causal-length n)) t) (gained-none n s t es (λ r k. h r (omega arith)))
+        ∙ ap (λ (x : ℕ). grown x (s (causal-length x)) t es) (sym e)
+    go (no e) ih =
+        ap (grown n (s (causal-length n)) t) (ih (omega arith))
+        ∙ grown-none n s t (grown p (s (causal-length p)) t es) (h n e)
+
+-- ---- a fresh world
+fresh-meaning : (n : ℕ) (groups : ℕ → ℕ) → MeaningOf (fresh n groups) []
+unfolding fresh tally knowledge
+fresh-meaning n groups = record {
+  counting = record {
+    closed = closed-fresh (λ m. 0);
+    senders = λ m h. absurd (not-suc-le-zero h);
+    stamps = λ m g q h. absurd (not-suc-le-zero h);
+    numbers = λ m g h. absurd (not-suc-le-zero h);
+  };
+  counters = λ p g q. refl;
+  sequences = λ p g. refl;
+  fifos = λ p. record {
+    old = λ i h. absurd (not-suc-le-zero h);
+    to-group = λ i h. absurd (not-suc-le-zero h);
+    once = λ i j l h. absurd (not-suc-le-zero h);
+    order = λ i x h. absurd (not-suc-le-zero h);
+    prefix = record {
+      in-below = λ i h. absurd (not-suc-le-zero h);
+      below-in = λ m h. absurd (not-suc-le-zero h);
+      most = λ q. pick-le (both (ltb p n) (ltb q n)) (omega arith) (omega arith);
+    };
+  };
+  causals = λ p. record {
+    in-fifo = λ i h. absurd (not-suc-le-zero h);
+    once = λ i j l h. absurd (not-suc-le-zero h);
+    order = λ i x h. absurd (not-suc-le-zero h);
+    prefix = record {
+      in-below = λ i h. absurd (not-suc-le-zero h);
+      below-in = λ m h. absurd (not-suc-le-zero h);
+      most = λ q. omega arith;
+    };
+  };
+}
+
+-- the invariant holds at the start
+pub whole-started : (setup : List ℕ) → setup-refusal setup ≡ 0 → Whole (started setup)
+unfolding made fresh
+whole-started setup ok = record {
+  sound = fresh-sound setup ok;
+  meaning = fresh-meaning (byte setup 1) (setup-group setup);
+  quiet = λ p i h. absurd (not-suc-le-zero h);
+  formed = refl;
+  senders = λ i q m a. absurd (no-event a);
+}
+
+-- ---- a multicast
+module _ (s : State) (es : List Event) (p groups : ℕ) (o : MeaningOf s es) where
+  -- one more, as the counters count
+  raised-suc : (b : Bool) (v : ℕ) → pick b (v + 1) v ≡ pick b (suc v) v
+  raised-suc b v = ap (λ (z : ℕ). pick b z v) (add-one v)
+
+  -- the messages after it
+  pub one-more : OneMore (messages s) (knowledge es) p groups (messages (multicast s p groups))
+  unfolding multicast posted numbered stamped raised put with-tables
+  one-more = record {
+    total = refl;
+    old-sender = λ x h. put-other s (sender (s count)) (sender x) p (λ e. apart x h (cc));
+    old-mask = λ x h. put-other s (mask (s count)) (mask x) groups (λ e. apart x h (cc));
+    old-stamp = λ x g q h. pick-no _ (s (stamp x g q)) (ne-eqb (s count) x (apart x h));
+    old-number = λ x g h. pick-no _ (s (number x g)) (ne-eqb (s count) x (apart x h));
+    new-sender = put-same s (sender (s count)) (sender (s count)) p refl;
+    new-mask = put-same s (mask (s count)) (mask (s count)) groups refl;
+    new-stamp = λ g q. stamp-is g q ∙ raised-suc (both (eqb p q) (bit groups g)) (s (counter p g q))
+        ∙ ap (λ (v : ℕ). pick (both (eqb p q) (bit groups g)) (suc v) v) (o .counters p g q);
+    new-number = λ g. number-is g
+        ∙ ap (λ (v : ℕ). pick (bit groups g) (v + 1) v)
+        (o .sequences p g ∙ sym (own-all (o .counting) p g) ∙ sym (o .counters p g p))
+        ∙ sym
+        (stamp-is g p
+        ∙ ap (λ (b : Bool). pick (both b (bit groups g)) (s (counter p g p) + 1) (s (counter p g p)))
+        (eqb-refl p));
+  }
+    where
+      apart : (x : ℕ) → x < s count → s count ≢ x
+      apart x h = omega arith
+
+      stamp-is : (g q : ℕ) → multicast s p groups (stamp (s count) g q)
+          ≡ pick (both (eqb p q) (bit groups g)) (s (counter p g q) + 1) (s (counter p g q))
+      stamp-is g q =
+          pick-yes
+          (pick (both (both (eqb p p) (eqb p q)) (bit groups g)) (s (counter p g q) + 1)
+          (s (counter p g q)))
+          (s (stamp (s count) g q)) (eqb-refl (s count))
+          ∙ ap
+          (λ (b : Bool). pick (both (both b (eqb p q)) (bit groups g)) (s (counter p g q) + 1)
+          (s (counter p g q))) (eqb-refl p)
+
+      number-is : (g : ℕ) → multicast s p groups (number (s count) g)
+          ≡ pick (bit groups g) (s (sequence p g) + 1) (s (sequence p g))
+      number-is g =
+          pick-yes (pick (both (eqb p p) (bit groups g)) (s (sequence p g) + 1) (s (sequence p g)))
+          (s (number (s count) g))
+          (eqb-refl (s count))
+          ∙ ap (λ (b : Bool). pick (both b (bit groups g)) (s (sequence p g) + 1) (s (sequence p g)))
+          (eqb-refl p)
+
+  -- tests grouped otherwise
+  grouped : (a b c : Bool) → both (both a b) c ≡ both a (both b c)
+  grouped true b c = refl
+  grouped false b c = refl
+
+  -- the counters and logs mean what they should
+  meaning-multicast : p < s size → MeaningOf (multicast s p groups) (sent p (s count) ∷ es)
+  unfolding multicast posted numbered stamped raised put with-tables knowledge
+  meaning-multicast hp = record {
+    counting = counting-sent (o .counting) one-more hp;
+    counters = λ r g q.
+        raised-suc (both (both (eqb p r) (eqb p q)) (bit groups g)) (s (counter r g q))
+        ∙ ap (λ (b : Bool). pick b (suc (s (counter r g q))) (s (counter r g q)))
+        (grouped (eqb p r) (eqb p q) (bit groups g))
+        ∙ counter-sent (o .counting) one-more r g q (s (counter r g q)) (o .counters r g q);
+    sequences = λ r g.
+        raised-suc (both (eqb p r) (bit groups g)) (s (sequence r g))
+        ∙ ap (λ (v : ℕ). pick (both (eqb p r) (bit groups g)) (suc v) v) (o .sequences r g)
+        ∙ sym (all-more (o .counting) one-more r g);
+    fifos = λ r. fifo-log-sent (o .counting) one-more (own s r) (o .fifos r);
+    causals =
+        λ r. causal-log-sent (o .counting) one-more (own s r) (o .fifos r)
+        (own (multicast s p groups) r .counter)
+        (own (multicast s p groups) r .sequence) (o .causals r);
+  }
+
+  -- and nothing is left to deliver
+  quiet-multicast : QuietOf s → QuietOf (multicast s p groups)
+  unfolding multicast posted numbered stamped raised put with-tables
+  quiet-multicast z r =
+      quiet-sent (o .counting) one-more (own s r) (o .fifos r) (own (multicast s p groups) r .counter)
+      (own (multicast s p groups) r .sequence) (z r)
+
+-- no causal log grows
+multicast-logs : (s : State) (p groups r : ℕ) → multicast s p groups (causal-length r) ≡ s (causal-length r)
+unfolding multicast posted numbered stamped raised put with-tables
+multicast-logs s p groups r = refl
+
+-- there is one message more
+pub multicast-count : (s : State) (p groups : ℕ) → multicast s p groups count ≡ suc (s count)
+unfolding multicast posted numbered stamped raised put with-tables
+multicast-count s p groups = add-one (s count)
+
+-- ---- a step at p that ends with its cascade; t is the state in which the cascade begins
+module _ (s t : State) (es : List Event) (p : ℕ) (hp : p < s size) (e : messages t ≡ messages s)
+    (z : t size ≡ s size)
+    (f : (r : ℕ) → own t r ≡ own s r) where
+  -- the cascade begins
+  pub cascade-begins : MeaningOf s es → QuietOf s → Cascading p (s (causal-length p)) es t t
+  cascade-begins o q = record {
+    meaning = subst (MeaningOf t) (sym (grown-none p s t es (ap (λ (r : Process). r .causal-length) (f p))))
+        (meaning-same s t e z f es o);
+    quiet = quiet-same s t e z f q;
+    start = omega (arith, ap (λ (r : Process). r .causal-length) (f p));
+    same = refl;
+    there = λ r n. refl;
+  }
+
+  -- and ends
+  whole-cascade : HeldTo t p → Sound (cascade t p) → Whole (with-history s es)
+      → Whole (with-history (cascade t p) (gained (s size) s (cascade t p) es))
+  whole-cascade h d w =
+      let c =
+      cascade-end p (s (causal-length p)) es t h (cascade-begins (w .meaning) (w .quiet)) .cascading in
+      let only = gained-one (s size) p s (cascade t p) es hp
+      (λ r n. ap (λ (x : Process). x .causal-length) (c .there r n ∙ f r)) in
+      let total : cascade t p count ≡ s count =
+      ap (λ (v : Still). v .ground .messages .total) (c .same) ∙ ap (λ (v : Messages). v .total) e in
+      record {
+        sound = d;
+        meaning = subst (MeaningOf (cascade t p)) (sym only) (c .meaning);
+        quiet = c .quiet;
+        formed = subst (λ (n : ℕ). Formed n (gained (s size) s (cascade t p) es)) (sym total)
+            (formed-gained (s count) (s size) s (cascade t p) es (w .formed));
+        senders = λ i q m a.
+            ap (λ (v : Still). v .ground .messages .sender m) (c .same) ∙ ap (λ (v : Messages). v .sender m) e
+            ∙ w .senders i q m (at-gained (s size) s (cascade t p) es a);
+      }
+
+-- a step without deliveries that changes no record and no message
+whole-plain : (s t : State) (es : List Event) → messages t ≡ messages s → t size ≡ s size
+    → ((r : ℕ) → own t r ≡ own s r)
+    → Sound t → Whole (with-history s es) → Whole (with-history t (gained (s size) s t es))
+whole-plain s t es e z f d w =
+    let none = gained-none (s size) s t es (λ r _. ap (λ (x : Process). x .causal-length) (f r)) in
+    record {
+      sound = d;
+      meaning = subst (MeaningOf t) (sym none) (meaning-same s t e z f es (w .meaning));
+      quiet = quiet-same s t e z f (w .quiet);
+      formed = subst (λ (n : ℕ). Formed n (gained (s size) s t es)) (sym (ap (λ (v : Messages). v .total) e))
+          (formed-gained (s count) (s size) s t es (w .formed));
+      senders = λ i q m a. ap (λ (v : Messages). v .sender m) e
+          ∙ w .senders i q m (at-gained (s size) s t es a);
+    }
+
+-- ---- every accepted step
+trusted-own : (s : State) (p set r : ℕ) → own (put s (trust p) set) r ≡ own s r
+unfolding put
+trusted-own s p set r = refl
+
+-- no message changes
+trusted-messages : (s : State) (p set : ℕ) → messages (put s (trust p) set) ≡ messages s
+unfolding put
+trusted-messages s p set = refl
+
+-- nor the number of processes
+trusted-size : (s : State) (p set : ℕ) → put s (trust p) set size ≡ s size
+unfolding put
+trusted-size s p set = refl
+
+-- who multicast a message is its sender, after a multicast
+multicast-senders : (s : State) (es : List Event) (p groups : ℕ) → Whole (with-history s es) → (i q m : ℕ)
+    → At (sent p (s count) ∷ es) i (sent q m) → multicast s p groups (sender m) ≡ q
+multicast-senders s es p groups w i q m a = go (at-cases a)
+  where
+    o : OneMore (messages s) (knowledge es) p groups (messages (multicast s p groups))
+    o = one-more s es p groups (w .meaning)
+
+    go : Newest (sent p (s count)) es i (sent q m) ⊎ At es i (sent q m) → multicast s p groups (sender m) ≡ q
+    go (inl b) =
+        let em : s count ≡ m = cc (b .1) in
+        let eq : p ≡ q = cc (b .1) in
+        subst (λ (x : ℕ). multicast s p groups (sender x) ≡ q) em (o .new-sender ∙ eq)
+    go (inr b) = o .old-sender m (cast-low es (w .formed) b) ∙ w .senders i q m b
+
+-- every accepted step keeps the invariant
+pub whole-step : (s : State) (es : List Event) (x : Step) → accepted s x ≡ true → Whole (with-history s es)
+    → Whole (taken on-states (with-history s es) x)
+unfolding step trust-set crash arrival leave put
+whole-step s es (multicasts p groups) e w =
+    let a = accepted-multicast s p groups e in
+    let t = multicast s p groups in
+    let none = gained-none (s size) s t (sent p (s count) ∷ es) (λ r _. multicast-logs s p groups r) in
+    record {
+      sound = step-sound s (multicasts p groups) e (w .sound);
+      meaning = subst (MeaningOf t) (sym none) (meaning-multicast s es p groups (w .meaning) (a .process));
+      quiet = quiet-multicast s es p groups (w .meaning) (w .quiet);
+      formed =
+          subst (λ (n : ℕ). Formed n (gained (s size) s t (sent p (s count) ∷ es)))
+          (sym (multicast-count s p groups))
+          (formed-gained (suc (s count)) (s size) s t (sent p (s count) ∷ es) (refl, w .formed));
+      senders = λ i q m b.
+          multicast-senders s es p groups w i q m (at-gained (s size) s t (sent p (s count) ∷ es) b);
+    }
+whole-step s es (arrives k m q p) e w =
+    let l = accepted-arrival s k m q p e .letter in
+    let g = arrived-ground s k m q p in
+    whole-cascade s (arrived s k m q p) es p (l .to) (ap (λ (v : Ground). v .messages) g)
+    (ap (λ (v : Ground). v .size) g)
+    (arrived-process s k m q p) (arrived-held s (w .sound) k m q p l)
+    (step-sound s (arrives k m q p) e (w .sound)) w
+whole-step s es (loses k m q p) e w =
+    whole-plain s (leave s k m q p) es refl refl (λ r. refl) (step-sound s (loses k m q p) e (w .sound)) w
+whole-step s es (trusts p set) e w =
+    let a = accepted-trust s p set e in
+    whole-cascade s (put s (trust p) set) es p (a .process) (trusted-messages s p set) (trusted-size s p set)
+    (trusted-own s p set) (trusted-held s (w .sound) p set (a .process))
+    (step-sound s (trusts p set) e (w .sound)) w
+whole-step s es (crashes p) e w =
+    whole-plain s (put s (up p) 0) es refl refl (λ r. refl) (step-sound s (crashes p) e (w .sound)) w
+whole-step s es malformed e w = whole-plain s s es refl refl (λ r. refl) (w .sound) w
+
+-- ---- runs
+pub whole-act : (r : Run State) (i : Item) → Whole r → Whole (act on-states r i)
+unfolding act tick settles
+whole-act r (given bytes) w = go (accepted (r .now) (read bytes)) refl
+  where
+    go : (b : Bool) → accepted (r .now) (read bytes) ≡ b → Whole (pick b (taken on-states r (read bytes)) r)
+    go true e = whole-step (r .now) (r .seen) (read bytes) e w
+    go false e = w
+whole-act r (settling b) w =
+    settle-keeps (λ t. lowest (t .now)) (λ t k m q p. taken on-states t (arrives k m q p)) Whole
+    (λ t k m q p e v. whole-step (t .now) (t .seen) (arrives k m q p)
+    (chosen-accepted (t .now) k m q p (lowest-moves (t .now) k m q p e)) v) b 0 r w
+
+-- every list keeps it
+pub whole-run : (r : Run State) (items : List Item) → Whole r → Whole (run on-states r items)
+unfolding run
+whole-run r [] w = w
+whole-run r (i ∷ items) w = whole-run (act on-states r i) items (whole-act r i w)
