@@ -1,0 +1,167 @@
+-- What the tests of a lent world decide: refusals 1 and 2, or a sound world, of which each call gives what its own
+-- sentence says. Assumes nothing.
+use mathlib.Core.Path.{_≡_, refl, sym, ap, _∙_}
+use mathlib.Core.Bool.{Bool, true, false}
+use mathlib.Core.List.{List, []}
+use Prim.Native.Nat.{ℕ, _+_, _≤_, _<_}
+use native.Mathlib.Omega.{arith}
+use lib.Dec.{eqb, ltb}
+use lib.ListN.{length, take, drop}
+use borrow.Author.Tests.{eq-eqb, ne-eqb, lt-ltb, le-ltb, eqb-true, ltb-true}
+use Rattle.base.specs.Tests.{pick}
+use Rattle.base.specs.Refusals.{needs, needs-none}
+use Rattle.world.specs.World.{size, encode, view}
+use Rattle.world.specs.Layout.{encode-view}
+use Rattle.world.specs.Sound.{sound}
+use Rattle.world.specs.SoundLaws.{sound-facts, size-high, count-high, fifo-length-high, causal-length-high}
+use Rattle.world.specs.Steps.{read, refusal, accepted, step, after, is-process}
+use Rattle.world.specs.Words.{needs-world, gives, refuses, step-words, step-refusal, stepped-words, settle-words, settled-words, settle-reply, log-length, log-start, log-refusal, log-words, length-reply}
+use Rattle.keeps.specs.Keeps.{SoundWords}
+
+-- ---- the world
+pub wrong-length : (w : List ℕ) (n : ℕ) → (length w ≡ 20480 → ⊥) → needs-world w n ≡ 1
+wrong-length w n h = rw (ne-eqb (length w) 20480 h)
+
+pub unsound : (w : List ℕ) (n : ℕ) → length w ≡ 20480 → sound (view w) ≡ false → needs-world w n ≡ 2
+unsound w n l h = rw (eq-eqb (length w) 20480 l, h)
+
+pub right-world : (w : List ℕ) (n : ℕ) → length w ≡ 20480 → sound (view w) ≡ true → needs-world w n ≡ n
+right-world w n l h = rw (eq-eqb (length w) 20480 l, h)
+
+pub world-sound : (w : List ℕ) → length w ≡ 20480 → sound (view w) ≡ true → SoundWords w
+world-sound w l h = record { long = l; reads = sound-facts (view w) h }
+
+-- a world that is refused is refused whatever comes after
+both-refused : (a b : Bool) (m n : ℕ) → (needs 1 a (needs 2 b 0) ≡ 0 → ⊥)
+    → needs 1 a (needs 2 b m) ≡ needs 1 a (needs 2 b n)
+both-refused true true m n h = absurd (h refl)
+both-refused true false m n h = refl
+both-refused false b m n h = refl
+
+pub still-refused : (w : List ℕ) (m n : ℕ) → (needs-world w 0 ≡ 0 → ⊥) → needs-world w m ≡ needs-world w n
+still-refused w m n h = both-refused (eqb (length w) 20480) (sound (view w)) m n h
+
+both-taken : (a b : Bool) (n : ℕ) → needs 1 a (needs 2 b 0) ≡ 0 → needs 1 a (needs 2 b n) ≡ n
+both-taken true true n h = refl
+both-taken true false n h = absurd (omega arith)
+both-taken false b n h = absurd (omega arith)
+
+pub still-taken : (w : List ℕ) (n : ℕ) → needs-world w 0 ≡ 0 → needs-world w n ≡ n
+still-taken w n h = both-taken (eqb (length w) 20480) (sound (view w)) n h
+
+-- ---- a step
+pub step-refused : (w bytes : List ℕ) (r : ℕ) → (r ≡ 0 → ⊥) → r ≡ needs-world w 0
+    → (r ≡ step-refusal w bytes) × (w ≡ stepped-words w bytes)
+unfolding step-refusal stepped-words
+step-refused w bytes r n e =
+    let z : r ≡ needs-world w (refusal (view w) (read bytes)) =
+    e ∙ still-refused w 0 (refusal (view w) (read bytes)) (λ q. n (e ∙ q)) in
+    (z, rw (← z, ne-eqb r 0 n))
+
+pub step-taken : (w bytes u : List ℕ) (r : ℕ) → needs-world w 0 ≡ 0 → length w ≡ 20480
+    → r ≡ refusal (view w) (read bytes) → u ≡ encode (after (view w) (read bytes))
+    → (r ≡ step-refusal w bytes) × (u ≡ stepped-words w bytes)
+unfolding step-refusal stepped-words after
+step-taken w bytes u r h l e f =
+    let z = still-taken w (refusal (view w) (read bytes)) h in (
+      e ∙ sym z,
+      f ∙ choice (accepted (view w) (read bytes))
+          ∙ ap (λ (n : ℕ). pick (eqb n 0) (step-words w (read bytes)) w) (sym z),
+    )
+  where
+    choice : (b : Bool)
+        → encode (pick b (step (view w) (read bytes)) (view w)) ≡ pick b (step-words w (read bytes)) w
+    choice true = refl
+    choice false = encode-view w l
+
+-- ---- settle
+pub settle-refused : (w : List ℕ) (b r : ℕ) → (r ≡ 0 → ⊥) → r ≡ needs-world w 0
+    → (refuses r ≡ settle-reply w b) × (w ≡ settled-words w b)
+unfolding settle-reply settled-words
+settle-refused w b r n e = (rw (← e, ne-eqb r 0 n), rw (← e, ne-eqb r 0 n))
+
+pub settle-taken : (w : List ℕ) (b : ℕ) → needs-world w 0 ≡ 0
+    → (gives (settle-words w b .ending) ≡ settle-reply w b) × (settle-words w b .world ≡ settled-words w b)
+unfolding settle-reply settled-words
+settle-taken w b e = (rw e, rw e)
+
+-- ---- logs
+pub log-refused : (w : List ℕ) (p : ℕ) (log : Bool) (r : ℕ) → (r ≡ 0 → ⊥) → r ≡ needs-world w 0
+    → (refuses r ≡ length-reply w p log)
+unfolding length-reply log-refusal
+log-refused w p log r n e =
+    let z = e ∙ still-refused w 0 (needs 5 (ltb p (view w size)) 0) (λ q. n (e ∙ q)) in
+    rw (← z, ne-eqb r 0 n)
+
+pub log-absent : (w : List ℕ) (p : ℕ) (log : Bool) → needs-world w 0 ≡ 0 → view w size ≤ p
+    → refuses 5 ≡ length-reply w p log
+unfolding length-reply log-refusal
+log-absent w p log e h = rw (still-taken w (needs 5 (ltb p (view w size)) 0) e, le-ltb p (view w size) h)
+
+pub log-there : (w : List ℕ) (p : ℕ) (log : Bool) → needs-world w 0 ≡ 0 → p < view w size
+    → gives (log-length (view w) p log) ≡ length-reply w p log
+unfolding length-reply log-refusal
+log-there w p log e h = rw (still-taken w (needs 5 (ltb p (view w size)) 0) e, lt-ltb p (view w size) h)
+
+-- ---- a log, by its length
+refuses-gives : {A : Type 0} (a : A) (n : ℕ) → refuses n ≡ gives a → ⊥
+refuses-gives a n e = let z : _≡_ {A = ℕ} 0 1 = cc in omega arith
+
+pub log-empty : (w : List ℕ) (p : ℕ) (log : Bool) (n : ℕ) → refuses n ≡ length-reply w p log
+    → [] ≡ log-words w p log
+unfolding length-reply log-words
+log-empty w p log n e = go (eqb (log-refusal w p) 0) e
+  where
+    go : (b : Bool) → refuses n ≡ pick b (gives (log-length (view w) p log)) (refuses (log-refusal w p))
+        → [] ≡ pick b (take (log-length (view w) p log) (drop (log-start p log) w)) []
+    go true h = absurd (refuses-gives (log-length (view w) p log) n h)
+    go false h = refl
+
+-- what a log that is there tells
+pub record Logged (w : List ℕ) (p : ℕ) (log : Bool) (n : ℕ) : Type 0 where
+  pub sound-there : SoundWords w
+  pub process-there : p < view w size
+  pub items : n ≡ log-length (view w) p log
+  pub words : take n (drop (log-start p log) w) ≡ log-words w p log
+
+pub logged : (w : List ℕ) (p : ℕ) (log : Bool) (n : ℕ) → gives n ≡ length-reply w p log → Logged w p log n
+unfolding length-reply log-words log-refusal
+logged w p log n e = go (eqb (log-refusal w p) 0) refl e
+  where
+    go : (b : Bool) → eqb (log-refusal w p) 0 ≡ b
+        → gives n ≡ pick b (gives (log-length (view w) p log)) (refuses (log-refusal w p)) → Logged w p log n
+    go true q h =
+        let z = needs-none 0 (eqb (length w) 20480) _ (eqb-true (log-refusal w p) 0 q) in
+        let y = needs-none 1 (sound (view w)) _ (z .1) in
+        let x = needs-none 4 (is-process (view w) p) 0 (y .1) in
+        let same : n ≡ log-length (view w) p log = cc in
+        record {
+          sound-there = world-sound w (eqb-true (length w) 20480 (z .0)) (y .0);
+          process-there = ltb-true p (view w size) (x .0);
+          items = same;
+          words = rw (q, same);
+        }
+    go false q h = absurd (refuses-gives n (log-refusal w p) (sym h))
+
+-- it lies among the words
+pub log-inside : (w : List ℕ) (p : ℕ) (log : Bool) (n : ℕ) → Logged w p log n
+    → (p < 16) × (log-start p log + n ≤ 20480)
+log-inside w p true n h =
+    let s = h .sound-there .reads in
+    let a = size-high (view w) s in
+    let b : p < 16 = omega (arith, h .process-there) in (
+      b,
+      omega (
+        arith,
+        h .items,
+        count-high (view w) s,
+        fifo-length-high (view w) s p b,
+        causal-length-high
+            (view w) s p b,
+      ),
+    )
+log-inside w p false n h =
+    let s = h .sound-there .reads in
+    let a = size-high (view w) s in
+    let b : p < 16 = omega (arith, h .process-there) in
+    (b, omega (arith, h .items, count-high (view w) s, fifo-length-high (view w) s p b))

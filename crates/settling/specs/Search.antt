@@ -1,0 +1,135 @@
+-- The search for the lowest letter, as the code goes: by masks, the lowest receiver by trailing zeros. Assumes nothing.
+use mathlib.Core.Path.{_≡_, refl, sym, ap, ap₂, _∙_}
+use mathlib.Core.Bool.{Bool, true, false, _&&_}
+use mathlib.Core.Logic.{_⊎_, inl, inr}
+use Prim.Native.Nat.{ℕ, _+_, _≤_, _<_}
+use native.Mathlib.Numerals.{add-one}
+use native.Mathlib.Omega.{arith}
+use lib.Bits.{bitAnd}
+use lib.Dec.{ltb}
+use borrow.Author.Tests.{lt-ltb, le-ltb}
+use Rattle.base.specs.Tests.{pick, clash, le-or-lt}
+use Rattle.base.specs.Search.{first-from, First, first-law}
+use Rattle.base.specs.Bits.{bit, with, mask-of, bit-and, bit-zero, bit-mask-of}
+use Rattle.world.specs.World.{size, count, flight, State}
+use Rattle.world.specs.Steps.{is-up}
+use Rattle.world.specs.Settle.{Choice, letter, nothing, moves, receiver, origin, kind, movable, letter-of, lowest}
+
+-- ---- the lowest member below n
+-- a mask whose bits below n are those that pass: its lowest member is the first that passes, or lies past n
+module _ (n x : ℕ) (f : ℕ → Bool) (small : n ≤ 16) (same : (p : ℕ) → p < n → bit x p ≡ f p) where
+  of-mask : First 16 0 (bit x) (first-from 16 0 (bit x))
+  of-mask = first-law 16 0 (bit x)
+
+  of-test : First n 0 f (first-from n 0 f)
+  of-test = first-law n 0 f
+
+  pub lowest-in : first-from 16 0 (bit x) < n → first-from n 0 f ≡ first-from 16 0 (bit x)
+  lowest-in h = go (le-or-lt (first-from n 0 f) r) (le-or-lt r (first-from n 0 f))
+    where
+      r : ℕ
+      r = first-from 16 0 (bit x)
+
+      hit : f r ≡ true
+      hit = sym (same r h) ∙ of-mask .hit (omega arith)
+
+      go : (first-from n 0 f ≤ r) ⊎ (r < first-from n 0 f) → (r ≤ first-from n 0 f) ⊎ (first-from n 0 f < r)
+          → first-from n 0 f ≡ r
+      go (inl a) (inl b) = omega arith
+      go (inr a) d = clash hit (of-test .miss r (omega arith) a)
+      go (inl a) (inr b) =
+          clash (same (first-from n 0 f) (omega arith) ∙ of-test .hit (omega arith))
+          (of-mask .miss (first-from n 0 f) (omega arith) b)
+
+  pub lowest-past : n ≤ first-from 16 0 (bit x) → first-from n 0 f ≡ n
+  lowest-past h = go (le-or-lt n (first-from n 0 f))
+    where
+      go : (n ≤ first-from n 0 f) ⊎ (first-from n 0 f < n) → first-from n 0 f ≡ n
+      go (inl a) = omega (arith, of-test .high)
+      go (inr a) =
+          clash (same (first-from n 0 f) a ∙ of-test .hit (omega arith))
+          (of-mask .miss (first-from n 0 f) (omega arith) (omega arith))
+
+-- ---- receivers
+-- The up receivers of the letters of kind k for m from q, if q is up.
+unfoldable pub waiting : State → ℕ → ℕ → ℕ → ℕ
+waiting s m k q = pick (is-up s q) (bitAnd (s (flight m k q)) (mask-of (s size) (is-up s))) 0
+
+-- as the code makes it, from the mask u of the up processes
+pub waiting-down : (s : State) (m k q u : ℕ) → u ≡ mask-of (s size) (is-up s) → q < s size → bit u q ≡ false
+    → 0 ≡ waiting s m k q
+unfolding waiting
+waiting-down s m k q u e h b =
+    rw (sym (bit-mask-of (s size) (is-up s) q h) ∙ ap (λ (x : ℕ). bit x q) (sym e) ∙ b)
+
+pub waiting-up : (s : State) (m k q u : ℕ) → u ≡ mask-of (s size) (is-up s) → q < s size → bit u q ≡ true
+    → bitAnd (s (flight m k q)) u ≡ waiting s m k q
+unfolding waiting
+waiting-up s m k q u e h b =
+    rw (sym (bit-mask-of (s size) (is-up s) q h) ∙ ap (λ (x : ℕ). bit x q) (sym e) ∙ b)
+    (ap (bitAnd (s (flight m k q))) e)
+
+-- one process more in the mask
+pub mask-more : (n : ℕ) (f : ℕ → Bool) → mask-of (n + 1) f ≡ pick (f n) (with (mask-of n f) n) (mask-of n f)
+unfolding mask-of
+mask-more n f = ap (λ (k : ℕ). mask-of k f) (add-one n)
+
+true-right : (a : Bool) → (a && true) ≡ a
+true-right true = refl
+true-right false = refl
+
+false-right : (a : Bool) → (a && false) ≡ false
+false-right true = refl
+false-right false = refl
+
+waiting-bit : (s : State) (m k q p : ℕ) → p < s size → bit (waiting s m k q) p ≡ moves s m k q p
+unfolding waiting moves
+waiting-bit s m k q p h = go (is-up s q) refl
+  where
+    u : ℕ
+    u = mask-of (s size) (is-up s)
+
+    go : (b : Bool) → is-up s q ≡ b
+        → bit (pick b (bitAnd (s (flight m k q)) u) 0) p ≡ (bit (s (flight m k q)) p && b && is-up s p)
+    go true e =
+        bit-and (s (flight m k q)) u p
+        ∙ ap₂ _&&_ (sym (true-right (bit (s (flight m k q)) p))) (bit-mask-of (s size) (is-up s) p h)
+    go false e = bit-zero p ∙ ap (λ (x : Bool). x && is-up s p) (sym (false-right (bit (s (flight m k q)) p)))
+
+-- the lowest of them is the receiver, or there is none
+pub receiver-in : (s : State) (m k q r : ℕ) → s size ≤ 16 → r ≡ first-from 16 0 (bit (waiting s m k q))
+    → r < s size
+    → receiver s m k q ≡ r
+unfolding receiver
+receiver-in s m k q r small e h =
+    lowest-in (s size) (waiting s m k q) (moves s m k q) small (waiting-bit s m k q) (rw (← e) h) ∙ sym e
+
+pub receiver-none : (s : State) (m k q r : ℕ) → s size ≤ 16 → r ≡ first-from 16 0 (bit (waiting s m k q))
+    → s size ≤ r → ltb (receiver s m k q) (s size) ≡ false
+unfolding receiver
+receiver-none s m k q r small e h =
+    ap (λ (x : ℕ). ltb x (s size))
+    (lowest-past (s size) (waiting s m k q) (moves s m k q) small (waiting-bit s m k q) (rw (← e) h))
+    ∙ le-ltb (s size) (s size) (omega arith)
+
+-- ---- the letter found, and none
+-- what the lowest message decides
+choose : State → ℕ → Bool → Choice
+choose s m b = elim b as (λ _. Choice) [ true ↦ letter-of s m | false ↦ nothing ]
+
+pub lowest-found : (s : State) (m k q r : ℕ) → first-from (s count) 0 (movable s) ≡ m → m < s count
+    → kind s m ≡ k
+    → origin s m k ≡ q → receiver s m k q ≡ r → lowest s ≡ letter k m q r
+unfolding lowest letter-of choose
+lowest-found s m k q r em h ek eq er =
+    ap (λ (x : ℕ). choose s x (ltb x (s count))) em
+    ∙ ap (choose s m) (lt-ltb m (s count) h)
+    ∙ ap (λ (x : ℕ). letter x m (origin s m x) (receiver s m x (origin s m x))) ek
+    ∙ ap (λ (x : ℕ). letter k m x (receiver s m k x)) eq
+    ∙ ap (letter k m q) er
+
+pub lowest-none : (s : State) → first-from (s count) 0 (movable s) ≡ s count → lowest s ≡ nothing
+unfolding lowest choose
+lowest-none s e =
+    ap (λ (x : ℕ). choose s x (ltb x (s count))) e
+    ∙ ap (choose s (s count)) (le-ltb (s count) (s count) (omega arith))
