@@ -1,0 +1,101 @@
+-- `engine::wt_settle` meets its contract: each case of the answer has its number and its values. Assumes nothing.
+use mathlib.Core.Path.{sym, ap, _∙_}
+use Rattle.world.specs.Settle.{Ending}
+use Rattle.world.specs.Words.{Reply}
+use Rattle.world.specs.Answers.{settling-reply}
+use Rattle.engine.specs.Values.{refusal-in, value-in, arrivals-in, done-in}
+use borrow.Author.Needs.{needs}
+use Rattle.engine.proofs.wt_settle.Statement.{statement}
+use Rattle.engine.proofs.wt_settle.Tie as tie
+
+settle-requires : tie.Need-settle-requires
+settle-requires c κs = search needs
+
+enum-known-n : tie.Need-enum-known-n
+enum-known-n c = search needs
+
+enum-known-n-2 : tie.Need-enum-known-n-2
+enum-known-n-2 c = search needs
+
+enum-known-r : tie.Need-enum-known-r
+enum-known-r c = search needs
+
+number-requires : tie.Need-number-requires
+number-requires c κs = search needs
+
+same-length : tie.Need-same-length
+same-length c = search needs
+
+returns : tie.Need-returns
+returns c =
+    let a = c .before .before .before .before .before .before .before .before .args in
+    let k = c .before in
+    let s = k .before .before .before .before .settle in
+    let e = ap settling-reply (sym (k .n .given .1)) ∙ s .ensures .0 in (
+      ap refusal-in e,
+      (
+        s .ensures .1,
+        (
+          ap (λ (x : Reply Ending). value-in arrivals-in x (a .arrivals .now)) e,
+          ap
+              (λ (x : Reply Ending). value-in done-in x (a .done .now)) e,
+        ),
+      ),
+    )
+
+same-length-2 : tie.Need-same-length-2
+same-length-2 c = search needs
+
+returns-2 : tie.Need-returns-2
+returns-2 c =
+    let a = c .before .before .before .before .before .before .before .before .args in
+    let k = c .before in
+    let s = k .before .before .before .before .settle in
+    let e = ap settling-reply (sym (k .n2 .given .1)) ∙ s .ensures .0 in (
+      ap refusal-in e,
+      (
+        s .ensures .1,
+        (
+          ap (λ (x : Reply Ending). value-in arrivals-in x (a .arrivals .now)) e,
+          ap
+              (λ (x : Reply Ending). value-in done-in x (a .done .now)) e,
+        ),
+      ),
+    )
+
+same-length-3 : tie.Need-same-length-3
+same-length-3 c = search needs
+
+returns-3 : tie.Need-returns-3
+returns-3 c =
+    let a = c .before .before .before .before .before .before .before .before .before .args in
+    let k = c .before .before in
+    let s = k .before .before .before .before .settle in
+    let e = ap settling-reply (sym (k .r .given .1)) ∙ s .ensures .0 in (
+      c .number .ensures
+          ∙ ap refusal-in e,
+      (
+        s .ensures .1,
+        (
+          ap (λ (x : Reply Ending). value-in arrivals-in x (a .arrivals .now)) e,
+          ap
+              (λ (x : Reply Ending). value-in done-in x (a .done .now)) e,
+        ),
+      ),
+    )
+
+pub wt-settle-spec : {M : Type 1} → statement M
+wt-settle-spec =
+    tie.close
+    (tie.spec
+    settle-requires
+    enum-known-n
+    enum-known-n-2
+    enum-known-r
+    number-requires
+    same-length
+    returns
+    same-length-2
+    returns-2
+    same-length-3
+    returns-3)

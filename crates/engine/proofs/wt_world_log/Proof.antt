@@ -1,0 +1,89 @@
+-- `engine::wt_world_log` meets its contract: a log that is there lies among the words. Assumes nothing.
+use mathlib.Core.Path.{_≡_, sym, ap, _∙_}
+use Prim.Native.Nat.{ℕ, _+_, _≤_, _<_}
+use native.Mathlib.Omega.{arith}
+use Rattle.world.specs.Words.{Reply, gives, log-start, length-reply}
+use Rattle.world.specs.Answers.{log-length-reply}
+use Rattle.calls.specs.Tested.{logged, log-inside}
+use Rattle.engine.specs.Values.{refusal-in, value-in}
+use borrow.Author.Needs.{needs}
+use Rattle.engine.proofs.wt_world_log.Statement.{statement}
+use Rattle.engine.proofs.wt_world_log.Tie as tie
+
+log-length-requires : tie.Need-log-length-requires
+log-length-requires c κs = search needs
+
+enum-known-n : tie.Need-enum-known-n
+enum-known-n c = search needs
+
+-- the length that was given
+replied : (c : tie.After-known-told)
+    → gives (c .before .n .given .0 .0) ≡ length-reply
+    (c .before .before .before .before .before .args .w .now)
+    (c .before .before .before .before .before .args .p)
+    (c .before .before .before .before .before .args .causal)
+replied c = let n =
+    c .before in ap log-length-reply (sym (n .n .given .1)) ∙ n .before .before .log-length .ensures
+
+inside : (c : tie.After-known-told)
+    → (c .before .before .before .before .before .args .p < 16)
+    × (log-start (c .before .before .before .before .before .args .p)
+    (c .before .before .before .before .before .args .causal) + c .before .n .given .0 .0 ≤ 20480)
+inside c = log-inside (c .before .before .before .before .before .args .w .now) _ _ _
+    (logged _ _ _ _ (replied c))
+
+start-requires : tie.Need-start-requires
+start-requires c κs = inside c .0
+
+cast-start : tie.Need-cast-start
+cast-start c = omega (arith, c .start .ensures, inside (c .before))
+
+cast-items : tie.Need-cast-items
+cast-items c = omega (arith, inside (c .before))
+
+enum-known-r : tie.Need-enum-known-r
+enum-known-r c = search needs
+
+number-requires : tie.Need-number-requires
+number-requires c κs = search needs
+
+returns : tie.Need-returns
+returns c =
+    let a = c .before .before .before .before .before .before .args in
+    let e = replied (c .before) in (
+      ap refusal-in e,
+      (
+        c .start .ensures
+            ∙ ap (λ (x : Reply ℕ). value-in (λ _. log-start (a .p) (a .causal)) x (a .start .now)) e,
+        ap
+            (λ (x : Reply ℕ). value-in (λ n. n) x (a .items .now)) e,
+      ),
+    )
+
+returns-2 : tie.Need-returns-2
+returns-2 c =
+    let a = c .before .before .before .before .before .before .args in
+    let k = c .before .before in
+    let e = ap log-length-reply (sym (k .r .given .1)) ∙ k .before .before .log-length .ensures in (
+      c .number .ensures
+          ∙ ap refusal-in e,
+      (
+        ap (λ (x : Reply ℕ). value-in (λ _. log-start (a .p) (a .causal)) x (a .start .now)) e,
+        ap
+            (λ (x : Reply ℕ). value-in (λ n. n) x (a .items .now)) e,
+      ),
+    )
+
+pub wt-world-log-spec : {M : Type 1} → statement M
+wt-world-log-spec =
+    tie.close
+    (tie.spec
+    log-length-requires
+    enum-known-n
+    start-requires
+    cast-start
+    cast-items
+    enum-known-r
+    number-requires
+    returns
+    returns-2)

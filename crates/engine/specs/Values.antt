@@ -1,0 +1,43 @@
+-- What an exported function leaves in a number that it was lent: a value of the answer, or on a refusal what stood
+-- there. Assumes nothing.
+use mathlib.Core.Path.{_≡_, ap}
+use Prim.Native.Nat.{ℕ}
+use lib.Dec.{eqb}
+use Rattle.base.specs.Tests.{pick}
+use Rattle.journal.specs.Answers.{Answer}
+use Rattle.world.specs.Settle.{Ending, done, stopped}
+use Rattle.world.specs.Words.{Reply, gives, refuses}
+use Rattle.replaying.specs.Replay.{Counts}
+
+-- ---- of a journal's answer
+abbrev pub given : Answer → ℕ → ℕ
+given a before = pick (eqb (a .refusal) 0) (a .value) before
+
+-- two answers that are the same refuse the same and give the same
+pub given-same : (a b : Answer) (before : ℕ) → a ≡ b → (a .refusal ≡ b .refusal) × (given a before ≡ given b before)
+given-same a b before e = (ap (λ (x : Answer). x .refusal) e, ap (λ (x : Answer). given x before) e)
+
+-- ---- of a reply: the refusal, 0 for none; and a number that is read off the value
+abbrev pub refusal-in : {A : Type 0} → Reply A → ℕ
+refusal-in (gives a) = 0
+refusal-in (refuses n) = n
+
+abbrev pub value-in : {A : Type 0} → (A → ℕ) → Reply A → ℕ → ℕ
+value-in f (gives a) before = f a
+value-in f (refuses n) before = before
+
+-- Of how settle ended: the number of arrivals, and 1 for done or 0 for stopped.
+abbrev pub arrivals-in : Ending → ℕ
+arrivals-in (done n) = n
+arrivals-in (stopped n) = n
+
+abbrev pub done-in : Ending → ℕ
+done-in (done n) = 1
+done-in (stopped n) = 0
+
+-- Of a replay's counts: the number of records after the setup, and how many were refused.
+abbrev pub steps-in : Counts → ℕ
+steps-in c = c .steps
+
+abbrev pub refused-in : Counts → ℕ
+refused-in c = c .refused

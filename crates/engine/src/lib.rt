@@ -1,0 +1,174 @@
+// The functions that the archive exports. Each returns 0, or the number of the refusal of document 01; what else
+// it answers goes out through a lent number. A refusal leaves everything that was lent as it was.
+use journal::Counted;
+use journal::ReadBack;
+use journal::Sized;
+use journal::Written;
+use replaying::Replaying;
+use world::LogLength;
+use world::Outcome;
+use world::Settling;
+ghost use mathlib.Core.Path.{_≡_};
+ghost use lib.ListN.{length};
+ghost use Rattle.journal.specs.Journal.{write-refusal, written, read-refusal, read-out};
+ghost use Rattle.journal.specs.Answers.{length-answer, count-answer};
+ghost use Rattle.world.specs.Words.{making-refusal, made-words, step-refusal, stepped-words, settle-reply, settled-words, log-start, length-reply};
+ghost use Rattle.replaying.specs.Replay.{replay-reply, replayed-words};
+ghost use Rattle.engine.specs.Values.{given, refusal-in, value-in, arrivals-in, done-in, steps-in, refused-in};
+
+// The number of bytes of the journal of so many bytes of records: 0 or 16.
+#[no_mangle]
+pub extern "C" fn wt_journal_length(size: usize, needed: &mut u32) -> u32
+    ensures answer { λ r. ⌜ r ≡ length-answer size .refusal ⌝ }
+    ensures value { λ _. ⌜ now (needed .exit) ≡ given (length-answer size) (now (needed .entry)) ⌝ }
+{
+    match journal::length_for(size) {
+        Sized::Bytes(n) => {
+            *needed = n as u32;
+            0
+        }
+        Sized::WrongRecords => 16,
+    }
+}
+
+// Writes the journal of the records: 0, 16 or 17.
+#[no_mangle]
+pub extern "C" fn wt_journal_write(records: &[u8], out: &mut [u8]) -> u32
+    ensures answer { λ r. ⌜ r ≡ write-refusal (length (now (records .entry))) (length (now (out .entry))) ⌝ }
+    ensures bytes { λ _. ⌜ now (out .exit) ≡ written (now (records .entry)) (now (out .entry)) ⌝ }
+{
+    match journal::write(records, out) {
+        Written::Done => 0,
+        Written::WrongRecords => 16,
+        Written::WrongOutput => 17,
+    }
+}
+
+// The number of records of a journal: 0, 13, 14 or 15.
+#[no_mangle]
+pub extern "C" fn wt_journal_count(journal: &[u8], count: &mut u32) -> u32
+    ensures answer { λ r. ⌜ r ≡ count-answer (now (journal .entry)) .refusal ⌝ }
+    ensures value { λ _. ⌜ now (count .exit) ≡ given (count-answer (now (journal .entry))) (now (count .entry)) ⌝ }
+{
+    match journal::count(journal) {
+        Counted::Records(n) => {
+            *count = n as u32;
+            0
+        }
+        Counted::WrongLength => 13,
+        Counted::WrongCheck => 14,
+        Counted::WrongForm => 15,
+    }
+}
+
+// Reads a journal into its records: 0, 13, 14, 15 or 17.
+#[no_mangle]
+pub extern "C" fn wt_journal_read(journal: &[u8], records: &mut [u8]) -> u32
+    ensures answer { λ r. ⌜ r ≡ read-refusal (now (journal .entry)) (length (now (records .entry))) ⌝ }
+    ensures bytes { λ _. ⌜ now (records .exit) ≡ read-out (now (journal .entry)) (now (records .entry)) ⌝ }
+{
+    match journal::read(journal, records) {
+        ReadBack::Done => 0,
+        ReadBack::WrongLength => 13,
+        ReadBack::WrongCheck => 14,
+        ReadBack::WrongForm => 15,
+        ReadBack::WrongOutput => 17,
+    }
+}
+
+// Makes the world of a setup record in the lent words: 0, 1 or 3.
+#[no_mangle]
+pub extern "C" fn wt_world_make(w: &mut [u16], setup: &[u8]) -> u32
+    ensures answer { λ r. ⌜ r ≡ making-refusal (now (w .entry)) (now (setup .entry)) ⌝ }
+    ensures words { λ _. ⌜ now (w .exit) ≡ made-words (now (w .entry)) (now (setup .entry)) ⌝ }
+{
+    match making::make(w, setup) {
+        Outcome::Taken => 0,
+        Outcome::Refused(r) => world::number(r),
+    }
+}
+
+// Takes a step: 0, 1, 2 or 4 to 12.
+#[no_mangle]
+pub extern "C" fn wt_step(w: &mut [u16], step: &[u8]) -> u32
+    ensures answer { λ r. ⌜ r ≡ step-refusal (now (w .entry)) (now (step .entry)) ⌝ }
+    ensures words { λ _. ⌜ now (w .exit) ≡ stepped-words (now (w .entry)) (now (step .entry)) ⌝ }
+{
+    match calls::step(w, step) {
+        Outcome::Taken => 0,
+        Outcome::Refused(r) => world::number(r),
+    }
+}
+
+// Where the FIFO or the causal log of a process stands among the lent words, and its length: 0, 1, 2 or 5.
+#[no_mangle]
+pub extern "C" fn wt_world_log(
+    w: &[u16],
+    p: u32,
+    causal: bool,
+    start: &mut u32,
+    items: &mut u32,
+) -> u32
+    ensures answer { λ r. ⌜ r ≡ refusal-in (length-reply (now (w .entry)) p causal) ⌝ }
+    ensures start { λ _. ⌜ now (start .exit) ≡ value-in (λ _. log-start p causal) (length-reply (now (w .entry)) p causal) (now (start .entry)) ⌝ }
+    ensures items { λ _. ⌜ now (items .exit) ≡ value-in (λ n. n) (length-reply (now (w .entry)) p causal) (now (items .entry)) ⌝ }
+{
+    match calls::log_length(w, p as usize, causal) {
+        LogLength::Items(n) => {
+            *start = logs::start(p as usize, causal) as u32;
+            *items = n as u32;
+            0
+        }
+        LogLength::Refused(r) => world::number(r),
+    }
+}
+
+// Makes at most `budget` arrivals; gives their number, and 1 for done or 0 for stopped: 0, 1 or 2.
+#[no_mangle]
+pub extern "C" fn wt_settle(w: &mut [u16], budget: u32, arrivals: &mut u32, done: &mut u32) -> u32
+    ensures answer { λ r. ⌜ r ≡ refusal-in (settle-reply (now (w .entry)) budget) ⌝ }
+    ensures words { λ _. ⌜ now (w .exit) ≡ settled-words (now (w .entry)) budget ⌝ }
+    ensures arrivals { λ _. ⌜ now (arrivals .exit) ≡ value-in arrivals-in (settle-reply (now (w .entry)) budget) (now (arrivals .entry)) ⌝ }
+    ensures done { λ _. ⌜ now (done .exit) ≡ value-in done-in (settle-reply (now (w .entry)) budget) (now (done .entry)) ⌝ }
+{
+    match calls::settle(w, budget) {
+        Settling::Done(n) => {
+            *arrivals = n;
+            *done = 1;
+            0
+        }
+        Settling::Stopped(n) => {
+            *arrivals = n;
+            *done = 0;
+            0
+        }
+        Settling::Refused(r) => world::number(r),
+    }
+}
+
+// Replays a journal; gives the number of records after its setup, and how many were refused: 0, 1, 3, 13, 14 or 15.
+#[no_mangle]
+pub extern "C" fn wt_replay(
+    w: &mut [u16],
+    journal: &[u8],
+    steps: &mut u32,
+    refused: &mut u32,
+) -> u32
+    ensures answer { λ r. ⌜ r ≡ refusal-in (replay-reply (now (w .entry)) (now (journal .entry))) ⌝ }
+    ensures words { λ _. ⌜ now (w .exit) ≡ replayed-words (now (w .entry)) (now (journal .entry)) ⌝ }
+    ensures steps { λ _. ⌜ now (steps .exit) ≡ value-in steps-in (replay-reply (now (w .entry)) (now (journal .entry))) (now (steps .entry)) ⌝ }
+    ensures refused { λ _. ⌜ now (refused .exit) ≡ value-in refused-in (replay-reply (now (w .entry)) (now (journal .entry))) (now (refused .entry)) ⌝ }
+{
+    match replaying::replay(w, journal) {
+        Replaying::Done(n, k) => {
+            *steps = n as u32;
+            *refused = k as u32;
+            0
+        }
+        Replaying::WorldLength => 1,
+        Replaying::JournalLength => 13,
+        Replaying::WrongCheck => 14,
+        Replaying::WrongForm => 15,
+        Replaying::BadSetup => 3,
+    }
+}
