@@ -1,0 +1,148 @@
+//! The calls on a lent world: worlds sound and not, setups, lists of steps, settles and journals to replay.
+
+mod calls;
+mod inputs;
+
+use crate::difference::Difference;
+use crate::lent::Lent;
+use crate::tally::Tally;
+use inputs::Start;
+use reference::random::Random;
+use reference::sample::{self, Weights, CALM, FLOOD, RACE, STORM, WRONG};
+use reference::words::{encode, WORDS};
+use reference::world::World;
+
+/// The words that are changed one by one in one input.
+const CHANGED: usize = 32;
+/// The steps of one input.
+pub const STEPS: u64 = 200;
+
+pub const ANSWERS: &[(&str, &[u32])] = &[
+    ("make", &[0, 1, 3]),
+    ("log", &[0, 1, 2, 5]),
+    ("step", &[0, 1, 2, 4, 5, 6, 7, 8, 9, 10, 11, 12]),
+    ("settle, done", &[0]),
+    ("settle, stopped", &[0]),
+    ("settle", &[1, 2]),
+];
+pub const COVER: &[(&str, usize)] = &[("word changed", WORDS)];
+
+pub const STEP_ANSWERS: &[(&str, &[u32])] = &[("step", &[0, 4, 5, 6, 7, 8, 9, 10, 11, 12])];
+pub const SETTLE_ANSWERS: &[(&str, &[u32])] = &[("settle, done", &[0]), ("settle, stopped", &[0])];
+pub const REPLAY_ANSWERS: &[(&str, &[u32])] = &[("replay", &[0, 1, 3, 13, 14, 15])];
+
+const STARTS: [Start; 2] = [Start::Fresh, Start::Sound];
+
+/// A world and all calls on it that need no list of steps.
+pub fn input(index: u64, random: &mut Random, tally: &mut Tally) -> Result<(), Difference> {
+    let turn = index / 4;
+    match index % 4 {
+        0 => setups(random, tally),
+        1 => lengths(random, tally),
+        2 => {
+            let world = inputs::world(random, &STARTS);
+            tally.input("world, sound");
+            all_calls(&encode(&world), random, tally)
+        }
+        _ => one_word_changed(turn, random, tally),
+    }
+}
+
+/// Makes a world from a setup, valid or not, over any words.
+fn setups(random: &mut Random, tally: &mut Tally) -> Result<(), Difference> {
+    tally.input("world, made from a setup");
+    let length = inputs::length(random, 16);
+    let words = Lent::room(random, length);
+    let setup = inputs::setup(random);
+    calls::make(&words, &setup, random, tally)
+}
+
+/// A sound world, cut or made longer.
+fn lengths(random: &mut Random, tally: &mut Tally) -> Result<(), Difference> {
+    tally.input("world, length");
+    let mut words = encode(&inputs::world(random, &STARTS));
+    words.resize(inputs::length(random, 2), 0);
+    all_calls(&words, random, tally)
+}
+
+/// A sound world with one word changed: words in turn, so that every word has been changed after some inputs.
+fn one_word_changed(turn: u64, random: &mut Random, tally: &mut Tally) -> Result<(), Difference> {
+    let world = inputs::world(random, &STARTS);
+    let words = encode(&world);
+    for i in 0..CHANGED {
+        tally.input("world, one word changed");
+        let at = (turn as usize * CHANGED + i) % WORDS;
+        tally.cover("word changed", at);
+        let mut changed = words.clone();
+        changed[at] = inputs::other_word(random, words[at]);
+        all_calls(&changed, random, tally)?;
+    }
+    Ok(())
+}
+
+/// A log, and now and then a step and a settle.
+fn all_calls(words: &[u16], random: &mut Random, tally: &mut Tally) -> Result<(), Difference> {
+    let words = Lent::holding(random, words);
+    let process = random.below(18) as u32;
+    calls::log(&words, process, random.one_in(2), tally)?;
+    if random.one_in(4) {
+        calls::step(&words, &inputs::any_step(random), random, tally)?;
+        calls::settle(&words, random.below(20) as u32, tally)?;
+    }
+    Ok(())
+}
+
+/// A list of steps from a world: the answer and all words after each step.
+pub fn steps(index: u64, random: &mut Random, tally: &mut Tally) -> Result<(), Difference> {
+    const KINDS: [(&str, Weights, Start); 6] = [
+        ("steps, calm", CALM, Start::Fresh),
+        ("steps, race", RACE, Start::Fresh),
+        ("steps, storm", STORM, Start::Fresh),
+        ("steps, flood", FLOOD, Start::Fresh),
+        ("steps, wrong", WRONG, Start::Fresh),
+        ("steps, of a sound world", STORM, Start::Sound),
+    ];
+    let (kind, weights, start) = KINDS[(index % 6) as usize];
+    tally.input(kind);
+    let mut world = inputs::start(random, start);
+    let mut words = Lent::holding(random, &encode(&world));
+    for _ in 0..STEPS {
+        let step = sample::step(random, &world, &weights);
+        calls::step_on(&mut world, &mut words, &step, tally)?;
+    }
+    Ok(())
+}
+
+/// A settle of a world with a budget about what it needs.
+pub fn settles(_: u64, random: &mut Random, tally: &mut Tally) -> Result<(), Difference> {
+    let world = inputs::world(random, &STARTS);
+    let needed = world.clone().settle(u32::MAX).arrivals;
+    let (kind, budget) = match random.below(6) {
+        0 => ("settle, none allowed", 0),
+        1 => ("settle, as many as needed", needed),
+        2 => ("settle, one fewer than needed", needed.max(1) - 1),
+        3 => ("settle, all allowed", u32::MAX),
+        _ => ("settle, any budget", random.below(needed as usize + 10) as u32),
+    };
+    tally.input(kind);
+    calls::settle(&Lent::holding(random, &encode(&world)), budget, tally)
+}
+
+/// A journal to replay over any words.
+pub fn replays(index: u64, random: &mut Random, tally: &mut Tally) -> Result<(), Difference> {
+    let (kind, journal) = match index % 8 {
+        0 => ("replay, damaged journal", crate::journal::damaged(random)),
+        1 => ("replay, damaged journal of steps", inputs::damaged_journal(random)),
+        2 => ("replay, any setup", inputs::journal(random, true)),
+        _ => ("replay, valid", inputs::journal(random, false)),
+    };
+    tally.input(kind);
+    let length = inputs::length(random, 32);
+    let words = Lent::room(random, length);
+    calls::replay(&words, &journal, random, tally)
+}
+
+/// The world of a setup that is valid.
+fn fresh(setup: &[u8]) -> World {
+    World::fresh(setup).expect("a valid setup")
+}

@@ -1,0 +1,100 @@
+//! Each call on both sides: the answers are the same, and all lent words too, as they were on a refusal.
+
+use crate::difference::{same, Difference};
+use crate::lent::Lent;
+use crate::tally::{number, Tally};
+use engine::raw;
+use engine::world as archive;
+use reference::calls as second;
+use reference::random::Random;
+use reference::words::encode;
+use reference::world::World;
+use reference::Refusal;
+
+type Compared = Result<(), Difference>;
+
+pub fn make(words: &Lent<u16>, setup: &[u8], random: &mut Random, tally: &mut Tally) -> Compared {
+    let setup = Lent::holding(random, setup);
+    let lent = setup.clone();
+    let (mut made, mut expected) = (words.clone(), words.clone());
+    let answer = archive::make(made.part_mut(), lent.part()).map_err(|refusal| refusal.number());
+    let right = second::make(expected.part_mut(), setup.part());
+    tally.answer("make", number(&right));
+    same("make: answer", answer, right.map_err(Refusal::number))?;
+    lent.same(&setup, "make: lent setup")?;
+    made.same(&expected, "make: world")
+}
+
+pub fn log(words: &Lent<u16>, process: u32, causal: bool, tally: &mut Tally) -> Compared {
+    let lent = words.clone();
+    let (mut start, mut length) = (7_777, 8_888);
+    let answer = raw::world_log(lent.part(), process, causal, &mut start, &mut length);
+    let right = second::log(words.part(), process as usize, causal);
+    tally.answer("log", number(&right));
+    same("log: answer", answer, number(&right))?;
+    lent.same(words, "log: world")?;
+    match right {
+        Err(_) => same("log: lent numbers", (start, length), (7_777, 8_888)),
+        Ok(log) => {
+            let part = lent.part().get(start as usize..start as usize + length as usize);
+            same("log: items", part, Some(log))?;
+            let wrapped = archive::log(lent.part(), process, causal).map_err(|refusal| refusal.number());
+            same("log: wrapper", wrapped, Ok(log))
+        }
+    }
+}
+
+/// A step on lent words that need not be sound.
+pub fn step(words: &Lent<u16>, step: &[u8], random: &mut Random, tally: &mut Tally) -> Compared {
+    let step = Lent::holding(random, step);
+    let lent = step.clone();
+    let (mut stepped, mut expected) = (words.clone(), words.clone());
+    let answer = archive::step(stepped.part_mut(), lent.part()).map_err(|refusal| refusal.number());
+    let right = second::step(expected.part_mut(), step.part());
+    tally.answer("step", number(&right));
+    same("step: answer", answer, right.map_err(Refusal::number))?;
+    lent.same(&step, "step: lent step")?;
+    stepped.same(&expected, "step: world")
+}
+
+/// A step in a list of steps: the words go on with the world.
+pub fn step_on(world: &mut World, words: &mut Lent<u16>, step: &[u8], tally: &mut Tally) -> Compared {
+    let mut expected = words.clone();
+    let answer = archive::step(words.part_mut(), step).map_err(|refusal| refusal.number());
+    let right = world.step(step);
+    tally.answer("step", number(&right));
+    same("step: answer", answer, right.map_err(Refusal::number))?;
+    expected.part_mut().copy_from_slice(&encode(world));
+    words.same(&expected, "step: world")
+}
+
+pub fn settle(words: &Lent<u16>, budget: u32, tally: &mut Tally) -> Compared {
+    let (mut settled, mut expected) = (words.clone(), words.clone());
+    let (mut arrivals, mut done) = (7_777, 8_888);
+    let answer = raw::settle(settled.part_mut(), budget, &mut arrivals, &mut done);
+    let right = second::settle(expected.part_mut(), budget);
+    let call = match right {
+        Ok(right) if right.done => "settle, done",
+        Ok(_) => "settle, stopped",
+        Err(_) => "settle",
+    };
+    tally.answer(call, number(&right));
+    same("settle: answer", answer, number(&right))?;
+    let numbers = right.map_or((7_777, 8_888), |right| (right.arrivals, u32::from(right.done)));
+    same("settle: lent numbers", (arrivals, done), numbers)?;
+    settled.same(&expected, "settle: world")
+}
+
+pub fn replay(words: &Lent<u16>, journal: &[u8], random: &mut Random, tally: &mut Tally) -> Compared {
+    let journal = Lent::holding(random, journal);
+    let lent = journal.clone();
+    let (mut replayed, mut expected) = (words.clone(), words.clone());
+    let (mut steps, mut refused) = (7_777, 8_888);
+    let answer = raw::replay(replayed.part_mut(), lent.part(), &mut steps, &mut refused);
+    let right = second::replay(expected.part_mut(), journal.part());
+    tally.answer("replay", number(&right));
+    same("replay: answer", answer, number(&right))?;
+    same("replay: lent numbers", (steps, refused), right.unwrap_or((7_777, 8_888)))?;
+    lent.same(&journal, "replay: lent journal")?;
+    replayed.same(&expected, "replay: world")
+}

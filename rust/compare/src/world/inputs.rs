@@ -1,0 +1,136 @@
+//! Random worlds, setups, lengths and journals.
+
+use super::fresh;
+use crate::journal::check_anew;
+use reference::journal as second;
+use reference::random::Random;
+use reference::record::{self, Record};
+use reference::sample::{self, CALM, FLOOD, RACE, STORM, WRONG};
+use reference::words::WORDS;
+use reference::world::World;
+
+/// Where a list of steps starts.
+#[derive(Clone, Copy)]
+pub enum Start {
+    Fresh,
+    /// Any sound world, reached by no list mostly.
+    Sound,
+}
+
+pub fn start(random: &mut Random, start: Start) -> World {
+    let most = if random.one_in(2) { 16 } else { 5 };
+    match start {
+        Start::Fresh => fresh(&sample::setup(random, most)),
+        Start::Sound => sample::sound_world(random, most),
+    }
+}
+
+/// A world after some steps.
+pub fn world(random: &mut Random, starts: &[Start]) -> World {
+    let from = random.pick(starts);
+    let mut world = start(random, from);
+    let weights = random.pick(&[CALM, RACE, STORM, FLOOD]);
+    let most = random.pick(&[1, 20, 200, 1000]);
+    for _ in 0..random.below(most) {
+        let step = sample::step(random, &world, &weights);
+        let _ = world.step(&step);
+    }
+    world
+}
+
+/// The length of a world, or one time in so many another.
+pub fn length(random: &mut Random, wrong: usize) -> usize {
+    if !random.one_in(wrong) {
+        return WORDS;
+    }
+    match random.below(5) {
+        0 => WORDS - 1,
+        1 => WORDS + 1,
+        2 => 0,
+        3 => random.below(WORDS),
+        _ => WORDS + random.below(1000),
+    }
+}
+
+pub fn other_word(random: &mut Random, word: u16) -> u16 {
+    match random.below(8) {
+        0 => word.wrapping_add(1),
+        1 => word.wrapping_sub(1),
+        2 | 3 => word ^ 1 << random.below(16),
+        4 => 0,
+        5 => random.below(66) as u16,
+        6 => 0xFFFF,
+        _ => random.next() as u16,
+    }
+}
+
+/// Some step for a world that need not be sound.
+pub fn any_step(random: &mut Random) -> Vec<u8> {
+    let kind = random.below(4) as u8;
+    let operands = [random.below(17), random.below(4), random.below(4)].map(|byte| byte as u8);
+    match random.below(6) {
+        0 => vec![2, kind, operands[0], operands[1], operands[2], 0, 0, 0],
+        1 => vec![3, kind, operands[0], operands[1], operands[2], 0, 0, 0],
+        2 => record::multicast(operands[1].into(), operands[2]).to_vec(),
+        3 => record::trust(operands[1].into(), random.next() as u16).to_vec(),
+        4 => record::crash(operands[0].into()).to_vec(),
+        _ => random.bytes(8),
+    }
+}
+
+/// A setup, valid or wrong in one way.
+pub fn setup(random: &mut Random) -> Vec<u8> {
+    let mut setup = sample::setup(random, 16);
+    match random.below(8) {
+        0 => setup[0] = random.byte(),
+        1 => setup[1] = random.pick(&[0, 15, 16, 17, 255]),
+        2 => setup[random.between(2, 7)] ^= 1 << random.below(8),
+        3 => return record::setup(&[0, random.below(8), random.below(8)]).to_vec(),
+        4 => return [setup, setup].concat()[..random.below(17)].to_vec(),
+        _ => {}
+    }
+    setup.to_vec()
+}
+
+/// A setup and some steps that it mostly takes.
+fn records(random: &mut Random, any_setup: bool) -> Vec<Record> {
+    let valid = sample::setup(random, 16);
+    let mut first = valid;
+    if any_setup {
+        let setup = setup(random);
+        let length = setup.len().min(8);
+        first[..length].copy_from_slice(&setup[..length]);
+    }
+    let mut world = fresh(&valid);
+    let mut records = vec![first];
+    let weights = random.pick(&[CALM, RACE, STORM, FLOOD, WRONG]);
+    let most = if random.one_in(500) { 8_064 } else { random.pick(&[1, 8, 64, 130, 300]) };
+    for _ in 0..random.below(most) {
+        let mut step = sample::step(random, &world, &weights);
+        let _ = world.step(&step);
+        step.resize(8, 0);
+        let mut record = [0; 8];
+        record.copy_from_slice(&step);
+        records.push(record);
+    }
+    records
+}
+
+pub fn journal(random: &mut Random, any_setup: bool) -> Vec<u8> {
+    let records = records(random, any_setup).concat();
+    let mut journal = vec![0; second::length(records.len()).expect("a list that can be written")];
+    second::write(&records, &mut journal).expect("the right length");
+    journal
+}
+
+/// A journal of steps with a byte changed, the check made anew or not.
+pub fn damaged_journal(random: &mut Random) -> Vec<u8> {
+    let any_setup = random.one_in(4);
+    let mut journal = journal(random, any_setup);
+    let at = random.below(journal.len());
+    journal[at] = random.byte();
+    if random.one_in(2) {
+        check_anew(&mut journal, at / second::BLOCK * second::BLOCK);
+    }
+    journal
+}

@@ -1,0 +1,19 @@
+//! The second implementation of document 01, written from the papers for clarity, to be held against the archive.
+
+#![forbid(unsafe_code)]
+
+pub mod calls;
+mod cascade;
+pub mod journal;
+pub mod random;
+pub mod record;
+mod refusal;
+pub mod replay;
+pub mod sample;
+pub mod settle;
+pub mod sound;
+mod step;
+pub mod words;
+pub mod world;
+
+pub use refusal::Refusal;

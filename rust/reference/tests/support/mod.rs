@@ -1,0 +1,53 @@
+//! What the tests share.
+
+#![allow(dead_code)]
+
+pub mod history;
+
+use reference::journal;
+use reference::record::{self, Record};
+use reference::world::{Kind, Letter, World};
+use reference::Refusal;
+
+pub fn letter(kind: usize, message: usize, from: usize, to: usize) -> Letter {
+    Letter { message, kind: [Kind::First, Kind::Relay, Kind::Ok][kind], from, to }
+}
+
+pub fn arrival(kind: usize, message: usize, from: usize, to: usize) -> Record {
+    record::arrival(letter(kind, message, from, to))
+}
+
+pub fn loss(kind: usize, message: usize, from: usize, to: usize) -> Record {
+    record::loss(letter(kind, message, from, to))
+}
+
+pub fn fresh(groups: &[usize]) -> World {
+    World::fresh(&record::setup(groups)).unwrap()
+}
+
+/// Takes the steps, all of which are accepted.
+pub fn take(world: &mut World, steps: &[Record]) {
+    for step in steps {
+        assert_eq!(world.step(step), Ok(()), "step {step:?}");
+    }
+}
+
+/// The step is refused with this number, and changes nothing.
+pub fn refused(world: &mut World, step: &[u8], refusal: Refusal) {
+    let before = world.clone();
+    assert_eq!(world.step(step), Err(refusal), "step {step:?}");
+    assert_eq!(*world, before);
+}
+
+/// The FIFO and the causal log of a process.
+pub fn logs(world: &World, process: usize) -> (&[usize], &[usize]) {
+    let process = &world.processes[process];
+    (&process.fifo_log, &process.causal_log)
+}
+
+pub fn journal_of(records: &[Record]) -> Vec<u8> {
+    let records = records.concat();
+    let mut journal = vec![0; journal::length(records.len()).unwrap()];
+    journal::write(&records, &mut journal).unwrap();
+    journal
+}
