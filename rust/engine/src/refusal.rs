@@ -1,52 +1,110 @@
-//! The refusals, by number.
+//! The refusals, by who causes them.
 
 use std::error::Error;
 use std::fmt;
 
-/// A refusal, by its number in document 01. A refusal changes nothing that was lent.
-#[derive(Clone, Copy, Debug, PartialEq, Eq)]
-pub struct Refusal(u32);
+/// Why a call was refused. A refusal changes nothing that was lent. Its value is its number.
+///
+/// ```
+/// use engine::{Refusal, Step, World};
+///
+/// let mut world = World::new(&[0, 1])?;
+/// let refusal = world.step(Step::crash(2)).unwrap_err();
+/// assert_eq!(refusal, Refusal::Process);
+/// assert_eq!(refusal.to_string(), "refusal 5, whoever writes a step: process not below n");
+/// # Ok::<(), Refusal>(())
+/// ```
+#[derive(Clone, Copy, Debug, PartialEq, Eq, Hash)]
+pub enum Refusal {
+    WorldLength = 1,
+    NotSound = 2,
+    Setup = 3,
+    Form = 4,
+    Process = 5,
+    GroupMask = 6,
+    Message = 7,
+    TrustMask = 8,
+    Down = 9,
+    Full = 10,
+    NotInFlight = 11,
+    BothUp = 12,
+    JournalLength = 13,
+    Check = 14,
+    Block = 15,
+    RecordsLength = 16,
+    OutputLength = 17,
+}
 
 impl Refusal {
+    /// All refusals, in the order of their numbers.
+    pub const ALL: [Refusal; 17] = [
+        Refusal::WorldLength,
+        Refusal::NotSound,
+        Refusal::Setup,
+        Refusal::Form,
+        Refusal::Process,
+        Refusal::GroupMask,
+        Refusal::Message,
+        Refusal::TrustMask,
+        Refusal::Down,
+        Refusal::Full,
+        Refusal::NotInFlight,
+        Refusal::BothUp,
+        Refusal::JournalLength,
+        Refusal::Check,
+        Refusal::Block,
+        Refusal::RecordsLength,
+        Refusal::OutputLength,
+    ];
+
     /// The answer of the archive: 0, or a refusal's number.
     pub(crate) fn check(answer: u32) -> Result<(), Refusal> {
-        match answer {
-            0 => Ok(()),
-            number => Err(Refusal(number)),
+        if answer == 0 {
+            return Ok(());
         }
+        let refusal = Refusal::ALL.iter().find(|refusal| refusal.number() == answer);
+        Err(*refusal.expect("the archive answers 0 or the number of a refusal"))
     }
 
     pub fn number(self) -> u32 {
-        self.0
+        self as u32
     }
 
+    /// Who causes it, and how, in the words of document 01.
     pub fn text(self) -> &'static str {
-        match self.0 {
-            1 => "world not 20,480 words",
-            2 => "world not sound",
-            3 => "setup record not of its form, or not 8 bytes",
-            4 => "step not 8 bytes, kind outside 1 to 5, letter kind above 2, or unused byte not zero",
-            5 => "process not below n",
-            6 => "mask empty or naming an absent group",
-            7 => "message not below count",
-            8 => "trust mask naming an absent process",
-            9 => "process of a multicast, trust or crash step, or receiver of an arrival, is down",
-            10 => "count is 64",
-            11 => "letter not in flight",
-            12 => "loss with both ends up",
-            13 => "journal length 0, over 65,536 or no multiple of 512",
-            14 => "check not exactly the block's number",
-            15 => "block number, record count, unused record or zero byte not as a block has it",
-            16 => "records length 0, no multiple of 8, or over 8,064 records",
-            17 => "output length not what is needed",
-            _ => "no refusal has this number",
+        match self {
+            Refusal::WorldLength => "whoever lends storage: world not 20,480 words",
+            Refusal::NotSound => "whoever lends storage: world not sound",
+            Refusal::Setup => "whoever sets up: setup record not as above, or not 8 bytes",
+            Refusal::Form => {
+                "whoever writes a step: not 8 bytes, kind outside 1 to 5, letter kind above 2, unused byte not zero"
+            }
+            Refusal::Process => "whoever writes a step: process not below n",
+            Refusal::GroupMask => "whoever writes a step: mask empty or naming an absent group",
+            Refusal::Message => "whoever writes a step: message not below count",
+            Refusal::TrustMask => "whoever writes a step: trust mask naming an absent process",
+            Refusal::Down => {
+                "the state of the mill: the process of a multicast, trust or crash step, or the receiver of an arrival, is down"
+            }
+            Refusal::Full => "the state of the mill: count is 64",
+            Refusal::NotInFlight => "the state of the mill: letter not in flight",
+            Refusal::BothUp => "the state of the mill: loss with both ends up",
+            Refusal::JournalLength => "whoever carries a journal: length 0, over 65,536 or no multiple of 512",
+            Refusal::Check => {
+                "whoever carries a journal: check not exactly that number (FFFF does not stand for 0000)"
+            }
+            Refusal::Block => "whoever carries a journal: any other block rule",
+            Refusal::RecordsLength => {
+                "whoever writes one: records length 0, no multiple of 8, over 8,064 records"
+            }
+            Refusal::OutputLength => "whoever writes one: output length not what is needed",
         }
     }
 }
 
 impl fmt::Display for Refusal {
     fn fmt(&self, f: &mut fmt::Formatter<'_>) -> fmt::Result {
-        write!(f, "refusal {}: {}", self.0, self.text())
+        write!(f, "refusal {}, {}", self.number(), self.text())
     }
 }
 

@@ -1,9 +1,142 @@
-//! The calls on a lent world of 20,480 words.
+//! The world: one that is owned, and the calls on lent words.
 
-use crate::{raw, Refusal};
+use crate::{layout, raw, Letter, Refusal, Setup, Step};
+use std::fmt;
 
 /// The words of a world.
 pub const WORDS: usize = 20_480;
+
+/// A settle that may make so many arrivals says done, in a world that steps reached.
+pub const SETTLE_ALL: u32 = 33_792;
+
+/// A world of up to 16 processes, 8 groups and 64 messages. Its words are sound: only the calls below change them.
+///
+/// ```
+/// use engine::{LetterKind, Step, World};
+///
+/// // Process 0 is in group 0, process 1 in group 1.
+/// let mut world = World::new(&[0, 1])?;
+/// world.step(Step::multicast(0, &[1])?)?;
+/// world.step(Step::arrival(LetterKind::First, 0, 0, 1))?;
+/// assert!(world.fifo_log(1)?.is_empty());
+/// world.step(Step::arrival(LetterKind::Ok, 0, 1, 1))?;
+/// assert_eq!(world.fifo_log(1)?, [0]);
+/// assert_eq!(world.causal_log(1)?, [0]);
+/// # Ok::<(), engine::Refusal>(())
+/// ```
+#[derive(Clone, PartialEq, Eq)]
+pub struct World {
+    words: Vec<u16>,
+}
+
+impl World {
+    /// The fresh world of processes in these groups, the first that of process 0. Refusal 3.
+    pub fn new(groups: &[u8]) -> Result<World, Refusal> {
+        World::from_setup(&Setup::new(groups)?)
+    }
+
+    /// The fresh world of the setup. Refusal 3.
+    pub fn from_setup(setup: &Setup) -> Result<World, Refusal> {
+        let mut words = vec![0; WORDS];
+        make(&mut words, &setup.record())?;
+        Ok(World { words })
+    }
+
+    /// The world that a journal leads to. Refusals 13, block by block 14 and 15, then 3.
+    ///
+    /// ```
+    /// use engine::{journal, Setup, Step, World};
+    ///
+    /// let records = [Setup::new(&[0])?.record(), Step::crash(0).record(), Step::crash(0).record()];
+    /// let (world, replayed) = World::replay(&journal::from_records(&records)?)?;
+    /// assert_eq!((replayed.steps, replayed.refused), (2, 1));
+    /// assert!(!world.is_up(0));
+    /// # Ok::<(), engine::Refusal>(())
+    /// ```
+    pub fn replay(journal: &[u8]) -> Result<(World, Replayed), Refusal> {
+        let mut words = vec![0; WORDS];
+        let replayed = replay(&mut words, journal)?;
+        Ok((World { words }, replayed))
+    }
+
+    /// A world from words that were kept. Refusals 1, 2.
+    pub fn from_words(words: Vec<u16>) -> Result<World, Refusal> {
+        match log(&words, 0, false) {
+            Ok(_) => Ok(World { words }),
+            Err(refusal) => Err(refusal),
+        }
+    }
+
+    pub fn words(&self) -> &[u16] {
+        &self.words
+    }
+
+    /// Takes a step. Refusals 5 to 12.
+    pub fn step(&mut self, step: Step) -> Result<(), Refusal> {
+        self.step_bytes(&step.record())
+    }
+
+    /// Takes what is given as a step. Refusals 4 to 12.
+    pub fn step_bytes(&mut self, bytes: &[u8]) -> Result<(), Refusal> {
+        step(&mut self.words, bytes)
+    }
+
+    /// Makes at most so many arrivals, each of the lowest letter between two up processes.
+    pub fn settle(&mut self, budget: u32) -> Settled {
+        settle(&mut self.words, budget).expect("the words of a World are sound")
+    }
+
+    /// The messages that the process has FIFO-delivered, in order. Refusal 5.
+    pub fn fifo_log(&self, process: u8) -> Result<&[u16], Refusal> {
+        log(&self.words, process.into(), false)
+    }
+
+    /// The messages that the process has causally delivered, in order. Refusal 5.
+    pub fn causal_log(&self, process: u8) -> Result<&[u16], Refusal> {
+        log(&self.words, process.into(), true)
+    }
+
+    /// The number of processes.
+    pub fn processes(&self) -> usize {
+        layout::processes(&self.words)
+    }
+
+    /// The number of messages so far.
+    pub fn messages(&self) -> usize {
+        layout::messages(&self.words)
+    }
+
+    /// Whether there is such a process and it is up.
+    pub fn is_up(&self, process: u8) -> bool {
+        layout::is_up(&self.words, process)
+    }
+
+    /// The group of a process, if there is such a one.
+    pub fn group(&self, process: u8) -> Option<u8> {
+        layout::group(&self.words, process)
+    }
+
+    /// The sender of a message, if there is such a one.
+    pub fn sender(&self, message: u8) -> Option<u8> {
+        layout::sender(&self.words, message)
+    }
+
+    /// The mask of the groups that a message is to, if there is such a one.
+    pub fn group_mask(&self, message: u8) -> Option<u8> {
+        layout::group_mask(&self.words, message)
+    }
+
+    /// The letters in flight, which a network has to carry, in their order.
+    pub fn letters(&self) -> Vec<Letter> {
+        layout::letters(&self.words)
+    }
+}
+
+impl fmt::Debug for World {
+    fn fmt(&self, f: &mut fmt::Formatter<'_>) -> fmt::Result {
+        write!(f, "World of {} processes, {} messages", self.processes(), self.messages())
+    }
+}
 
 /// Makes the fresh world of a setup record, over any words. Refusals 1, 3.
 pub fn make(world: &mut [u16], setup: &[u8]) -> Result<(), Refusal> {

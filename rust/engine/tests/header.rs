@@ -1,0 +1,113 @@
+//! The wrapper states what the C header states: the header's test program prints the stored lines, and so does the
+//! wrapper here. The refusals' words are those of document 01 as docs/TRACE.md has its sentences.
+
+use engine::{journal, LetterKind, Record, Refusal, Setup, Step, World};
+use engine::{GROUPS, MESSAGES, PROCESSES, SETTLE_ALL, WORDS};
+use std::fs;
+use std::path::Path;
+
+fn read(path: &str) -> String {
+    let root = Path::new(env!("CARGO_MANIFEST_DIR")).join("../..");
+    fs::read_to_string(root.join(path)).expect(path)
+}
+
+fn sizes() -> Vec<String> {
+    vec![
+        format!("sizes: {PROCESSES} processes, {GROUPS} groups, {MESSAGES} messages, {WORDS} words"),
+        format!(
+            "journal: {} bytes, {} records of {} bytes",
+            journal::BYTES,
+            journal::RECORDS,
+            Record::default().len()
+        ),
+        "blocks: as many as the bytes and the records".to_string(),
+        format!("a whole settle: {SETTLE_ALL} arrivals"),
+    ]
+}
+
+fn records() -> Result<Vec<String>, Refusal> {
+    let line = |what: &str, record: Record| {
+        let bytes: String = record.iter().map(|byte| format!(" {byte:02x}")).collect();
+        format!("{what}:{bytes}")
+    };
+    let most = [0, 1, 2, 3, 4, 5, 6, 7, 7, 6, 5, 4, 3, 2, 1, 0];
+    let refused = |groups: &[u8]| Setup::new(groups).unwrap_err().number();
+    Ok(vec![
+        line("setup 0 1 2", Setup::new(&[0, 1, 2])?.record()),
+        line("setup 0 to 7 to 0", Setup::new(&most)?.record()),
+        format!("setup 0 8: {}; setup of 17: {}", refused(&[0, 8]), refused(&[0; 17])),
+        line("multicast 15 to 0 7", Step::multicast(15, &[0, 7])?.record()),
+        line("arrival first 63 from 1 to 2", Step::arrival(LetterKind::First, 63, 1, 2).record()),
+        line("arrival relay 3 from 4 to 5", Step::arrival(LetterKind::Relay, 3, 4, 5).record()),
+        line("loss ok 6 from 7 to 8", Step::loss(LetterKind::Ok, 6, 7, 8).record()),
+        line("trust 9 in 0 9 15", Step::trust(9, &[0, 9, 15])?.record()),
+        line("crash 10", Step::crash(10).record()),
+    ])
+}
+
+fn world() -> Result<Vec<String>, Refusal> {
+    let mut world = World::new(&[0, 1, 1])?;
+    world.step(Step::multicast(0, &[1])?)?;
+    world.step(Step::multicast(0, &[1])?)?;
+    world.step(Step::arrival(LetterKind::First, 1, 0, 1))?;
+    world.step(Step::crash(2))?;
+    let mut lines = vec!["refused: 0".to_string()];
+    lines.push(format!("world: {} processes, {} messages", world.processes(), world.messages()));
+    lines.extend((0..=16).filter(|&p| world.is_up(p)).map(|p| format!("up: {p}")));
+    lines.extend(world.letters().iter().map(|l| {
+        let kind = l.kind.number();
+        format!("in flight: message {}, kind {kind}, from {}, to {}", l.message, l.from, l.to)
+    }));
+    Ok(lines)
+}
+
+#[test]
+fn the_wrapper_states_what_the_header_states() {
+    let mut lines = sizes();
+    lines.extend(Refusal::ALL.iter().map(|refusal| refusal.to_string()));
+    lines.extend(records().unwrap());
+    lines.extend(world().unwrap());
+    assert_eq!(lines.join("\n") + "\n", read("tests/header/header.out"));
+}
+
+#[test]
+fn refusals_are_numbered_from_1() {
+    for (i, refusal) in Refusal::ALL.iter().enumerate() {
+        assert_eq!(refusal.number() as usize, i + 1);
+    }
+}
+
+#[test]
+fn refusals_have_the_words_of_document_01() {
+    let trace = read("docs/TRACE.md");
+    for refusal in Refusal::ALL {
+        let (who, words) = refusal.text().split_once(": ").expect("who, then how");
+        let sentence = trace
+            .lines()
+            .filter_map(|line| line.strip_prefix("| ")?.split(" | ").next()?.split_once(": "))
+            .find(|(start, _)| start.to_lowercase() == who)
+            .map(|(_, rest)| rest.trim_end_matches('.'))
+            .unwrap_or_else(|| panic!("no sentence of {who}"));
+        let item = format!("{} {words}", refusal.number());
+        assert!(sentence.split("; ").any(|part| part == item), "{item}");
+    }
+}
+
+#[test]
+fn a_number_without_a_place_is_refused() {
+    assert_eq!(Step::multicast(0, &[8]), Err(Refusal::GroupMask));
+    assert_eq!(Step::trust(0, &[16]), Err(Refusal::TrustMask));
+    assert_eq!(Setup::new(&[]), Err(Refusal::Setup));
+    assert_eq!(World::new(&[0, 2]), Err(Refusal::Setup));
+}
+
+#[test]
+fn kept_words_are_tested() {
+    let world = World::new(&[0, 1]).unwrap();
+    let mut words = world.words().to_vec();
+    assert_eq!(World::from_words(words.clone()), Ok(world));
+    words[0] = 17;
+    assert_eq!(World::from_words(words.clone()), Err(Refusal::NotSound));
+    words.pop();
+    assert_eq!(World::from_words(words), Err(Refusal::WorldLength));
+}

@@ -1,0 +1,110 @@
+/*
+ * A recipe that is overtaken. The office sends the press a new recipe (message 0), then tells the mixer to start (1). The
+ * mixer starts and tells the press that a batch is on its way (2). The batch's letters reach the press before the
+ * recipe's: the press has message 2, but does not act on it before message 0, which causally precedes it.
+ *
+ * cc -Idist samples/overtaken.c dist/libengine.a -o overtaken && ./overtaken
+ */
+#include <stdio.h>
+#include <stdlib.h>
+#include <wardrobeteal.h>
+
+enum { OFFICE, MIXER, PRESS, MACHINES };
+
+static const char *const names[MACHINES] = {"office", "mixer", "press"};
+static const char *const bodies[] = {"use the new recipe", "start a batch", "a batch is on its way"};
+
+/* The engine's storage, and how many messages of its causal log each machine has acted on. */
+static uint16_t world[WT_WORLD_WORDS];
+static uint32_t acted[MACHINES];
+
+static void check(uint32_t answer) {
+    if (answer != 0) {
+        fprintf(stderr, "refusal %u, %s\n", (unsigned)answer, wt_refusal_text(answer));
+        exit(EXIT_FAILURE);
+    }
+}
+
+/* The log of a machine, with its length. */
+static const uint16_t *log_of(uint32_t machine, bool causal, uint32_t *items) {
+    uint32_t start = 0;
+    check(wt_world_log(world, WT_WORLD_WORDS, machine, causal, &start, items));
+    return world + start;
+}
+
+/* Each machine acts on what is new in its causal log, in the log's order. */
+static void act(void) {
+    uint32_t machine, items;
+    for (machine = 0; machine < MACHINES; machine++) {
+        const uint16_t *log = log_of(machine, true, &items);
+        for (; acted[machine] < items; acted[machine]++) {
+            uint32_t message = log[acted[machine]];
+            printf("  %s acts on message %u: %s\n", names[machine], (unsigned)message, bodies[message]);
+        }
+    }
+}
+
+static uint32_t take(const uint8_t *step) { return wt_step(world, WT_WORLD_WORDS, step, WT_RECORD_BYTES); }
+
+static void multicast(uint8_t from, uint8_t group) {
+    uint8_t step[WT_RECORD_BYTES];
+    uint32_t message = wt_messages(world);
+    wt_put_multicast(step, from, WT_GROUP(group));
+    check(take(step));
+    printf("%s sends message %u to group %u: %s\n", names[from], (unsigned)message, (unsigned)group, bodies[message]);
+    act();
+}
+
+static void arrive(uint8_t kind, uint8_t message, uint8_t from, uint8_t to) {
+    static const char *const kinds[] = {"first letter", "relay", "OK"};
+    uint8_t step[WT_RECORD_BYTES];
+    wt_put_arrival(step, kind, message, from, to);
+    check(take(step));
+    printf("%s of message %u from %s arrives at %s\n", kinds[kind], (unsigned)message, names[from], names[to]);
+    act();
+}
+
+static void print_log(uint32_t machine, bool causal) {
+    uint32_t i, items;
+    const uint16_t *log = log_of(machine, causal, &items);
+    printf(" %s", causal ? "causal" : "FIFO");
+    for (i = 0; i < items; i++) printf(" %u", (unsigned)log[i]);
+}
+
+static void print_logs(void) {
+    uint32_t machine;
+    for (machine = 0; machine < MACHINES; machine++) {
+        printf("%s:", names[machine]);
+        print_log(machine, false);
+        printf(";");
+        print_log(machine, true);
+        printf("\n");
+    }
+}
+
+int main(void) {
+    const uint8_t groups[MACHINES] = {0, 1, 2};
+    uint8_t record[WT_RECORD_BYTES];
+    uint32_t answer;
+
+    check(wt_put_setup(record, groups, MACHINES));
+    check(wt_world_make(world, WT_WORLD_WORDS, record, sizeof record));
+
+    multicast(OFFICE, 2);
+    multicast(OFFICE, 1);
+    arrive(WT_LETTER_FIRST, 1, OFFICE, MIXER);
+    arrive(WT_LETTER_OK, 1, MIXER, MIXER);
+    multicast(MIXER, 2);
+    arrive(WT_LETTER_FIRST, 2, MIXER, PRESS);
+    arrive(WT_LETTER_OK, 2, PRESS, PRESS);
+    print_logs();
+    arrive(WT_LETTER_FIRST, 0, OFFICE, PRESS);
+    arrive(WT_LETTER_OK, 0, PRESS, PRESS);
+    print_logs();
+
+    /* A letter arrives once only. */
+    wt_put_arrival(record, WT_LETTER_OK, 0, PRESS, PRESS);
+    answer = take(record);
+    printf("the same letter again: refusal %u, %s\n", (unsigned)answer, wt_refusal_text(answer));
+    return 0;
+}

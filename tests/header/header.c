@@ -1,0 +1,103 @@
+/*
+ * Prints what the header states beside its declarations: sizes, the refusals' words, records written by its functions,
+ * and what its functions read from a world. The wrapper's tests hold the wrapper to the same lines.
+ */
+#include <stdio.h>
+#include <wardrobeteal.h>
+
+static uint16_t world[WT_WORLD_WORDS];
+
+static void print_record(const char *what, const uint8_t *record) {
+    int i;
+    printf("%s:", what);
+    for (i = 0; i < WT_RECORD_BYTES; i++) printf(" %02x", (unsigned)record[i]);
+    printf("\n");
+}
+
+static void print_sizes(void) {
+    printf("sizes: %d processes, %d groups, %d messages, %d words\n", (int)WT_PROCESSES, (int)WT_GROUPS, (int)WT_MESSAGES,
+           (int)WT_WORLD_WORDS);
+    printf("journal: %d bytes, %d records of %d bytes\n", (int)WT_JOURNAL_BYTES, (int)WT_JOURNAL_RECORDS,
+           (int)WT_RECORD_BYTES);
+    printf("blocks: %s\n",
+           WT_JOURNAL_BLOCKS * WT_BLOCK_BYTES == WT_JOURNAL_BYTES && WT_JOURNAL_BLOCKS * WT_BLOCK_RECORDS == WT_JOURNAL_RECORDS
+               ? "as many as the bytes and the records"
+               : "wrong");
+    printf("a whole settle: %d arrivals\n", (int)WT_SETTLE_ALL);
+}
+
+static void print_refusals(void) {
+    uint32_t number;
+    for (number = 1; number <= WT_REFUSAL_OUTPUT_LENGTH; number++) {
+        printf("refusal %u, %s\n", (unsigned)number, wt_refusal_text(number));
+    }
+}
+
+static void print_records(void) {
+    const uint8_t three[] = {0, 1, 2};
+    const uint8_t most[] = {0, 1, 2, 3, 4, 5, 6, 7, 7, 6, 5, 4, 3, 2, 1, 0};
+    const uint8_t wrong[] = {0, 8};
+    const uint8_t seventeen[17] = {0};
+    uint8_t record[WT_RECORD_BYTES];
+    wt_put_setup(record, three, 3);
+    print_record("setup 0 1 2", record);
+    wt_put_setup(record, most, 16);
+    print_record("setup 0 to 7 to 0", record);
+    printf("setup 0 8: %u; setup of 17: %u\n", (unsigned)wt_put_setup(record, wrong, 2),
+           (unsigned)wt_put_setup(record, seventeen, 17));
+    wt_put_multicast(record, 15, WT_GROUP(0) | WT_GROUP(7));
+    print_record("multicast 15 to 0 7", record);
+    wt_put_arrival(record, WT_LETTER_FIRST, 63, 1, 2);
+    print_record("arrival first 63 from 1 to 2", record);
+    wt_put_arrival(record, WT_LETTER_RELAY, 3, 4, 5);
+    print_record("arrival relay 3 from 4 to 5", record);
+    wt_put_loss(record, WT_LETTER_OK, 6, 7, 8);
+    print_record("loss ok 6 from 7 to 8", record);
+    wt_put_trust(record, 9, WT_PROCESS(0) | WT_PROCESS(9) | WT_PROCESS(15));
+    print_record("trust 9 in 0 9 15", record);
+    wt_put_crash(record, 10);
+    print_record("crash 10", record);
+}
+
+static void print_letters(void) {
+    uint32_t m, k, q, p;
+    for (m = 0; m <= WT_MESSAGES; m++)
+        for (k = 0; k <= 3; k++)
+            for (q = 0; q <= WT_PROCESSES; q++)
+                for (p = 0; p <= WT_PROCESSES; p++)
+                    if (wt_in_flight(world, k, m, q, p))
+                        printf("in flight: message %u, kind %u, from %u, to %u\n", (unsigned)m, (unsigned)k, (unsigned)q,
+                               (unsigned)p);
+}
+
+static uint32_t take(const uint8_t *step) { return wt_step(world, WT_WORLD_WORDS, step, WT_RECORD_BYTES); }
+
+/* Two multicasts, an arrival and a crash; then what the header's functions read. */
+static void print_world(void) {
+    const uint8_t groups[] = {0, 1, 1};
+    uint8_t record[WT_RECORD_BYTES];
+    uint32_t answers = 0;
+    uint32_t p;
+    wt_put_setup(record, groups, 3);
+    answers += wt_world_make(world, WT_WORLD_WORDS, record, sizeof record);
+    wt_put_multicast(record, 0, WT_GROUP(1));
+    answers += take(record) + take(record);
+    wt_put_arrival(record, WT_LETTER_FIRST, 1, 0, 1);
+    answers += take(record);
+    wt_put_crash(record, 2);
+    answers += take(record);
+    printf("refused: %u\n", (unsigned)answers);
+    printf("world: %u processes, %u messages\n", (unsigned)wt_processes(world), (unsigned)wt_messages(world));
+    for (p = 0; p <= WT_PROCESSES; p++) {
+        if (wt_is_up(world, p)) printf("up: %u\n", (unsigned)p);
+    }
+    print_letters();
+}
+
+int main(void) {
+    print_sizes();
+    print_refusals();
+    print_records();
+    print_world();
+    return 0;
+}
