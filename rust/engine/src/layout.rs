@@ -1,6 +1,6 @@
 //! What stands in the words of a sound world, by docs/LAYOUT.md.
 
-use crate::{Letter, LetterKind, MESSAGES, PROCESSES};
+use crate::{Letter, LetterKind, PROCESSES};
 
 const SIZE: usize = 0;
 const COUNT: usize = 1;
@@ -40,12 +40,14 @@ pub fn group_mask(words: &[u16], message: u8) -> Option<u8> {
 
 pub fn letters(words: &[u16]) -> Vec<Letter> {
     let mut letters = Vec::new();
-    for message in 0..MESSAGES as u8 {
+    for message in 0..messages(words) as u8 {
         for kind in LetterKind::ALL {
-            for from in 0..PROCESSES as u8 {
+            for from in 0..processes(words) as u8 {
                 let receivers = words[of_message(message) + FLIGHT + place(kind, from)];
-                let flying = (0..PROCESSES as u8).filter(|to| receivers >> to & 1 == 1);
-                letters.extend(flying.map(|to| Letter { message, kind, from, to }));
+                if receivers != 0 {
+                    let flying = (0..PROCESSES as u8).filter(|to| receivers >> to & 1 == 1);
+                    letters.extend(flying.map(|to| Letter { message, kind, from, to }));
+                }
             }
         }
     }

@@ -1,0 +1,8 @@
+//! Tools for people, over the wrapper: a journal as text, and the run of a journal as a picture.
+
+#![forbid(unsafe_code)]
+
+mod numbers;
+pub mod picture;
+pub mod run;
+pub mod text;

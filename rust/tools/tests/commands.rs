@@ -1,0 +1,75 @@
+//! The commands as a person runs them: standard input, standard output, reasons on standard error, exit status.
+
+mod support;
+
+use std::fs;
+use std::io::Write;
+use std::process::{Command, Output, Stdio};
+use support::root;
+
+const JOURNAL_TEXT: &str = env!("CARGO_BIN_EXE_journal-text");
+const SPACE_TIME: &str = env!("CARGO_BIN_EXE_space-time");
+
+fn run(program: &str, arguments: &[&str], input: &[u8]) -> Output {
+    let mut child = Command::new(program)
+        .args(arguments)
+        .stdin(Stdio::piped())
+        .stdout(Stdio::piped())
+        .stderr(Stdio::piped())
+        .spawn()
+        .expect("the program starts");
+    // A program that wants no input may end before it is written.
+    let _ = child.stdin.take().expect("its input").write_all(input);
+    child.wait_with_output().expect("the program ends")
+}
+
+fn stored(path: &str) -> Vec<u8> {
+    fs::read(root().join(path)).expect(path)
+}
+
+fn refused(output: Output, status: i32, reason: &str) {
+    assert_eq!(output.status.code(), Some(status));
+    assert!(output.stdout.is_empty());
+    assert_eq!(String::from_utf8_lossy(&output.stderr), reason);
+}
+
+#[test]
+fn text_and_journal_are_each_made_from_the_other() {
+    for name in ["known-1", "known-3", "known-4", "every-step-refused"] {
+        let journal = stored(&format!("tests/journals/{name}.journal"));
+        let text = stored(&format!("tests/journals/{name}.text"));
+        assert_eq!(run(JOURNAL_TEXT, &["to-text"], &journal).stdout, text);
+        assert_eq!(run(JOURNAL_TEXT, &["to-journal"], &text).stdout, journal);
+    }
+}
+
+#[test]
+fn what_is_refused_is_told() {
+    let output = run(JOURNAL_TEXT, &["to-journal"], b"setup groups 0\nmulticast 0 to 9\n");
+    refused(output, 1, "journal-text: line 2: a group is a number from 0 to 7, not '9'\n");
+    let wrong = stored("tests/journals/wrong-form.journal");
+    let reason = "refusal 15, whoever carries a journal: any other block rule\n";
+    refused(run(JOURNAL_TEXT, &["to-text"], &wrong), 1, &format!("journal-text: {reason}"));
+    refused(run(SPACE_TIME, &[], &wrong), 1, &format!("space-time: {reason}"));
+}
+
+#[test]
+fn wrong_arguments_show_the_usage() {
+    for (program, arguments) in [(JOURNAL_TEXT, &[][..]), (JOURNAL_TEXT, &["to"]), (SPACE_TIME, &["x"])] {
+        let output = run(program, arguments, b"");
+        assert_eq!(output.status.code(), Some(2));
+        assert!(String::from_utf8_lossy(&output.stderr).starts_with("usage: "));
+    }
+}
+
+/// The pictures of the README, made by:
+/// `space-time <tests/journals/known-3.journal >docs/pictures/known-3.svg`.
+#[test]
+fn stored_pictures_are_those_of_their_journals() {
+    for name in ["known-3", "known-4"] {
+        let journal = stored(&format!("tests/journals/{name}.journal"));
+        let picture = stored(&format!("docs/pictures/{name}.svg"));
+        let drawn = run(SPACE_TIME, &[], &journal).stdout;
+        assert!(drawn == picture, "docs/pictures/{name}.svg is not what space-time draws");
+    }
+}

@@ -1,0 +1,99 @@
+//! The run of a journal is what the second implementation says, and its picture shows all of it.
+
+mod support;
+
+use engine::journal;
+use reference::random::Random;
+use reference::replay::replay;
+use std::fs;
+use support::{root, run_records, stored_journals};
+use tools::picture::svg;
+use tools::run::{End, Run, What};
+
+const RUNS: u64 = 200;
+
+fn any_journal(index: u64) -> Vec<u8> {
+    journal::from_records(&run_records(&mut Random::new(4, index), 300)).expect("a list that can be written")
+}
+
+/// The messages that the run has delivered at a process, in order.
+fn delivered(run: &Run, process: u8, causal: bool) -> Vec<usize> {
+    let here = run.moments.iter().filter(|moment| moment.process == process);
+    here.filter_map(|moment| match moment.what {
+        What::Fifo { message } if !causal => Some(message.into()),
+        What::Causal { message } if causal => Some(message.into()),
+        _ => None,
+    })
+    .collect()
+}
+
+fn number(run: &Run, end: fn(End) -> bool) -> usize {
+    run.flights.iter().filter(|flight| end(flight.end)).count()
+}
+
+#[test]
+fn a_run_is_what_the_second_implementation_says() {
+    let mut waited = 0;
+    for index in 0..RUNS {
+        let bytes = any_journal(index);
+        let run = Run::of_journal(&bytes).unwrap();
+        let expected = replay(&bytes).unwrap();
+        assert_eq!((run.steps, run.refused), (expected.steps as usize, expected.refused as usize));
+        for (p, process) in expected.world.processes.iter().enumerate() {
+            let p = p as u8;
+            assert_eq!(usize::from(run.groups[usize::from(p)]), process.group);
+            assert_eq!(run.world.is_up(p), process.up);
+            assert_eq!(delivered(&run, p, false), process.fifo_log);
+            assert_eq!(delivered(&run, p, true), process.causal_log);
+            let waiting = run.waiting.iter().filter(|wait| wait.process == p).count();
+            assert_eq!(waiting, process.fifo_log.len() - process.causal_log.len());
+        }
+        let letters = run.world.letters();
+        let letters =
+            letters.iter().map(|l| (l.message.into(), l.kind.number().into(), l.from.into(), l.to.into()));
+        let flight: Vec<(usize, usize, usize, usize)> =
+            expected.world.flight.iter().map(|l| (l.message, l.kind as usize, l.from, l.to)).collect();
+        assert_eq!(letters.collect::<Vec<_>>(), flight);
+        assert_eq!(number(&run, |end| end == End::InFlight), flight.len());
+        assert!(run.waiting.iter().all(|wait| !wait.for_messages.is_empty()));
+        waited += run.waiting.len();
+    }
+    assert!(waited > 30, "{waited} messages waited");
+}
+
+#[test]
+fn a_picture_shows_every_letter_delivery_and_wait() {
+    for index in 0..RUNS / 4 {
+        let run = Run::of_journal(&any_journal(index)).unwrap();
+        let picture = svg(&run);
+        let shown = |mark: &str| picture.matches(mark).count();
+        // The legend has three arrows, and words on a wait.
+        assert_eq!(shown("url(#tip"), number(&run, |end| matches!(end, End::Arrived(_))) + 3);
+        assert_eq!(shown("stroke-opacity=\"0.6\""), number(&run, |end| end == End::InFlight));
+        assert_eq!(shown("waits for"), run.waiting.len() + 1);
+        assert_eq!(shown(">refused "), run.refused);
+        let deliveries =
+            run.moments.iter().filter(|m| matches!(m.what, What::Fifo { .. } | What::Causal { .. }));
+        assert_eq!(shown("width=\"22.0\" height=\"20.0\""), deliveries.count() + 2);
+        assert_eq!(shown(">process "), run.groups.len());
+    }
+}
+
+#[test]
+fn every_stored_journal_is_drawn_or_refused_as_replay_refuses_it() {
+    for stored in stored_journals() {
+        let refusal = Run::of_journal(&stored.journal).map(|run| svg(&run).len()).err();
+        let expected = replay(&stored.journal).err();
+        assert_eq!(refusal.map(|r| r.number()), expected.map(|r| r.number()), "{}", stored.name);
+    }
+}
+
+#[test]
+fn a_message_that_cannot_come_is_waited_for() {
+    let journal = fs::read(root().join("tests/journals/known-4.journal")).unwrap();
+    let run = Run::of_journal(&journal).unwrap();
+    assert_eq!(run.waiting.len(), 1);
+    let wait = &run.waiting[0];
+    assert_eq!((wait.process, wait.message, &wait.for_messages[..]), (2, 2, &[0][..]));
+    assert!(svg(&run).contains("2 waits for 0"));
+}
