@@ -70,6 +70,24 @@ fn the_wrapper_states_what_the_header_states() {
     assert_eq!(lines.join("\n") + "\n", read("tests/header/header.out"));
 }
 
+/// The constants of the header, as `WT_REFUSAL_NAME = NUMBER` with the words in a comment behind.
+#[test]
+fn the_constants_of_the_header_have_the_same_names_and_words() {
+    let header = read("include/wardrobeteal.h");
+    let constants: Vec<(&str, &str)> = header
+        .lines()
+        .filter_map(|line| line.trim().strip_prefix("WT_REFUSAL_")?.split_once(" = "))
+        .collect();
+    assert_eq!(constants.len(), Refusal::ALL.len());
+    for ((name, rest), refusal) in constants.iter().zip(Refusal::ALL) {
+        assert_eq!(name.replace('_', "").to_lowercase(), format!("{refusal:?}").to_lowercase());
+        let (number, comment) = rest.split_once("/* ").expect("words");
+        assert_eq!(number.trim().trim_end_matches(','), refusal.number().to_string());
+        let (_, words) = refusal.text().split_once(": ").expect("who, then how");
+        assert_eq!(comment.trim_end_matches(" */"), words);
+    }
+}
+
 #[test]
 fn refusals_are_numbered_from_1() {
     for (i, refusal) in Refusal::ALL.iter().enumerate() {
