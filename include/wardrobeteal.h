@@ -1,14 +1,15 @@
 /*
- * Wardrobeteal: the message engine for feed mill control software. FIFO and causal multicast among groups of processes.
+ * Wardrobeteal: the message engine for feed mill control software. FIFO and causal multicast among groups of
+ * processes.
  *
  * For C99 or later and C++. Link with libengine.a, which is for x86-64 and calls nothing but memcpy and memset.
  *
- * Every call takes any storage, any step and any journal. It returns 0, or the number of a refusal (below); where several
- * would fit, the one that the call's comment names first. A refused call changes nothing that was lent: no word, no byte,
- * no number. No call allocates, blocks, keeps a pointer or has a state of its own, so calls on different worlds may run
- * at the same time. The only duty of the caller is that of C: each pointer is to as many items as the length beside it says,
- * a pointer to a number is to one, and what a call changes overlaps nothing else that is lent to it. A pointer is never
- * null, also where the length is 0.
+ * Every call takes any storage, any step and any journal. It returns 0, or the number of a refusal (below); where
+ * several apply, the one that the call's comment names first. A refused call changes nothing that was lent: no
+ * word, no byte, no number. No call allocates, blocks, keeps a pointer or has a state of its own, so calls on
+ * different worlds may run at the same time. The only duty of the caller is that of C: each pointer is to as many
+ * items as the length beside it says, a pointer to a number is to one, and what a call changes overlaps nothing
+ * else that is lent to it. A pointer is never null, also where the length is 0.
  */
 #ifndef WARDROBETEAL_H
 #define WARDROBETEAL_H
@@ -35,7 +36,7 @@ enum {
     WT_JOURNAL_BLOCKS = 128,   /* the most blocks of a journal */
     WT_JOURNAL_BYTES = 65536,  /* the most bytes of a journal */
     WT_JOURNAL_RECORDS = 8064, /* the most records of a journal, its setup included */
-    WT_SETTLE_ALL = 33792      /* a settle that may make so many arrivals says done, in a world that steps reached */
+    WT_SETTLE_ALL = 33792      /* a settle with this budget says done, in a world that steps reached */
 };
 
 /* The first byte of a step. */
@@ -45,71 +46,91 @@ enum { WT_STEP_MULTICAST = 1, WT_STEP_ARRIVAL = 2, WT_STEP_LOSS = 3, WT_STEP_TRU
 enum { WT_LETTER_FIRST = 0, WT_LETTER_RELAY = 1, WT_LETTER_OK = 2 };
 
 /*
- * The world. It is WT_WORLD_WORDS words that the caller lends; what they hold is in docs/LAYOUT.md.
+ * The calls on a world. In each of them:
+ *   world          the words of a world, lent by the caller; docs/LAYOUT.md has what they hold
+ *   world_length   how many words are lent: WT_WORLD_WORDS, else the call is refused
  */
 
 /*
- * Makes a fresh world from a setup record, over whatever the words hold. A setup record is 8 bytes: 0, the number n of
- * processes (1 to 16), then 48 bits, low byte first; bits 3i to 3i+2 are the group of process i, zero from n on. Groups
- * have no gap. wt_put_setup writes one.
- * Changes: the words of world. Refusals: 1, 3.
+ * Makes a fresh world, over whatever the words hold.
+ *   setup, setup_length   a setup record, which wt_put_setup writes: 8 bytes, 0, the number n of processes (1 to 16),
+ *                         then 48 bits, low byte first; bits 3i to 3i+2 are the group of process i, zero from n on;
+ *                         groups have no gap
+ * Returns 0, or refusal 1, 3. Changes the words of world.
  */
 uint32_t wt_world_make(uint16_t *world, size_t world_length, const uint8_t *setup, size_t setup_length);
 
 /*
- * Takes a step of 8 bytes: a kind, its operands, zeros. wt_put_multicast and the others below write one.
- * Changes: the words of world. Refusals: 1, 2, then 4 to 12, the lowest first.
+ * Takes a step.
+ *   step, step_length   8 bytes, a kind, its operands, zeros; wt_put_multicast and the others below write them
+ * Returns 0, or refusal 1, 2, 4 to 12, the lowest that applies. Changes the words of world.
  */
 uint32_t wt_step(uint16_t *world, size_t world_length, const uint8_t *step, size_t step_length);
 
 /*
- * Makes at most `budget` arrivals, each of the lowest letter in flight between two up processes, by message, kind, from, to.
- * Changes: the words of world; *arrivals to the number made; *done to 1 if no such letter remains, or to 0 if the budget
- * is used and one remains. Refusals: 1, 2.
+ * Makes arrivals, each of the lowest letter in flight between two up processes, by message, kind, from, to.
+ *   budget     the most arrivals to make
+ *   arrivals   where the number of those made is put
+ *   done       where 1 is put if no such letter remains, or 0 if the budget is used and one remains
+ * Returns 0, or refusal 1, 2. Changes the words of world, *arrivals and *done.
  */
 uint32_t wt_settle(uint16_t *world, size_t world_length, uint32_t budget, uint32_t *arrivals, uint32_t *done);
 
 /*
- * Finds the log of a process: the causal one, or else the FIFO one. Its items are message numbers, world[*start] the first.
- * Changes: *start to the place of the log among the words, *items to its length. Refusals: 1, 2, 5.
+ * Finds a log of a process. Its items are message numbers: world[*start] and those that follow.
+ *   process   the process
+ *   causal    true for its causal log, false for its FIFO log
+ *   start     where the place of the log among the words is put
+ *   items     where the length of the log is put
+ * Returns 0, or refusal 1, 2, 5. Changes *start and *items.
  */
 uint32_t wt_world_log(const uint16_t *world, size_t world_length, uint32_t process, bool causal, uint32_t *start,
                       uint32_t *items);
 
 /*
- * Replays a journal over whatever the words hold: makes the world from its first record and takes all others as steps.
- * Changes: the words of world; *steps to the number of records after the first; *refused to how many of these were
- * refused, which changed nothing. Refusals: 1, 13, block by block 14 and 15, then 3.
+ * Replays a journal, over whatever the words hold: makes the world from its first record, takes all others as steps.
+ *   journal, journal_length   the bytes of the journal
+ *   steps                     where the number of records after the first is put
+ *   refused                   where is put how many of these were refused; they changed nothing
+ * Returns 0, or refusal 1, 13, block by block 14 and 15, then 3. Changes the words of world, *steps and *refused.
  */
-uint32_t wt_replay(uint16_t *world, size_t world_length, const uint8_t *journal, size_t journal_length, uint32_t *steps,
-                   uint32_t *refused);
+uint32_t wt_replay(uint16_t *world, size_t world_length, const uint8_t *journal, size_t journal_length,
+                   uint32_t *steps, uint32_t *refused);
 
 /*
- * The journal: records of 8 bytes in blocks of 512 bytes, each with a checksum. Neither reading nor writing looks at what
- * records mean.
+ * The calls on a journal: records of 8 bytes in blocks of 512 bytes, each with a checksum. Neither reading nor writing
+ * looks at what records mean.
  */
 
 /*
- * Tells how long the journal of so many bytes of records is.
- * Changes: *needed to its length in bytes. Refusals: 16.
+ * Tells how long a journal will be.
+ *   records_length   the bytes of its records
+ *   needed           where the bytes of the journal are put
+ * Returns 0, or refusal 16. Changes *needed.
  */
 uint32_t wt_journal_length(size_t records_length, uint32_t *needed);
 
 /*
- * Writes the journal of the records.
- * Changes: the bytes of out, which has the length that wt_journal_length gives. Refusals: 16, 17.
+ * Writes a journal.
+ *   records, records_length   the bytes of its records
+ *   out, out_length           where the journal goes, as long as wt_journal_length says
+ * Returns 0, or refusal 16, 17. Changes the bytes of out.
  */
 uint32_t wt_journal_write(const uint8_t *records, size_t records_length, uint8_t *out, size_t out_length);
 
 /*
  * Tests a journal and counts its records.
- * Changes: *count to their number. Refusals: 13, block by block 14 and 15.
+ *   journal, journal_length   the bytes of the journal
+ *   count                     where the number of records is put
+ * Returns 0, or refusal 13, block by block 14 and 15. Changes *count.
  */
 uint32_t wt_journal_count(const uint8_t *journal, size_t journal_length, uint32_t *count);
 
 /*
  * Reads the records of a journal.
- * Changes: the bytes of records, which is 8 bytes long for each record. Refusals: 13, block by block 14 and 15, then 17.
+ *   journal, journal_length   the bytes of the journal
+ *   records, records_length   where the records go, 8 bytes for each
+ * Returns 0, or refusal 13, block by block 14 and 15, then 17. Changes the bytes of records.
  */
 uint32_t wt_journal_read(const uint8_t *journal, size_t journal_length, uint8_t *records, size_t records_length);
 
@@ -153,7 +174,8 @@ static inline const char *wt_refusal_text(uint32_t number) {
     case WT_REFUSAL_MESSAGE: return "whoever writes a step: message not below count";
     case WT_REFUSAL_TRUST_MASK: return "whoever writes a step: trust mask naming an absent process";
     case WT_REFUSAL_DOWN:
-        return "the state of the mill: the process of a multicast, trust or crash step, or the receiver of an arrival, is down";
+        return "the state of the mill: the process of a multicast, trust or crash step, or the receiver of an "
+               "arrival, is down";
     case WT_REFUSAL_FULL: return "the state of the mill: count is 64";
     case WT_REFUSAL_NOT_IN_FLIGHT: return "the state of the mill: letter not in flight";
     case WT_REFUSAL_BOTH_UP: return "the state of the mill: loss with both ends up";
@@ -186,8 +208,9 @@ static inline void wt_put_record(uint8_t *record, uint8_t kind, uint8_t a, uint8
 }
 
 /*
- * The setup record of processes in these groups, groups[i] that of process i. Refusal 3, and nothing written, where these
- * have no place in a record: more than 16 processes, or a group above 7. What else is wrong wt_world_make refuses.
+ * The setup record of processes in these groups, groups[i] that of process i. Refusal 3, and nothing written, where
+ * these have no place in a record: more than 16 processes, or a group above 7. What else is wrong wt_world_make
+ * refuses.
  */
 static inline uint32_t wt_put_setup(uint8_t *setup, const uint8_t *groups, size_t processes) {
     uint64_t bits = 0;
@@ -229,7 +252,8 @@ static inline void wt_put_crash(uint8_t *step, uint8_t process) {
 }
 
 /*
- * What stands in a world that a call has made or taken, by docs/LAYOUT.md. A number that is absent there gives false.
+ * What stands in a world that a call has made or taken, by docs/LAYOUT.md. A number that is absent there gives
+ * false.
  */
 
 enum {
@@ -253,9 +277,9 @@ static inline bool wt_is_up(const uint16_t *world, uint32_t process) {
 
 /* Whether this letter is in flight: these are the letters that a network has to carry. */
 static inline bool wt_in_flight(const uint16_t *world, uint32_t kind, uint32_t message, uint32_t from, uint32_t to) {
+    uint32_t block = WT_PLACE_MESSAGES + message * WT_MESSAGE_BLOCK;
     if (kind > WT_LETTER_OK || message >= WT_MESSAGES || from >= WT_PROCESSES || to >= WT_PROCESSES) return false;
-    return (world[WT_PLACE_MESSAGES + message * WT_MESSAGE_BLOCK + WT_MESSAGE_FLIGHT + kind * WT_PROCESSES + from] >> to & 1)
-           == 1;
+    return (world[block + WT_MESSAGE_FLIGHT + kind * WT_PROCESSES + from] >> to & 1) == 1;
 }
 
 #ifdef __cplusplus

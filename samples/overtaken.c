@@ -1,7 +1,8 @@
 /*
- * A recipe that is overtaken. The office sends the press a new recipe (message 0), then tells the mixer to start (1). The
- * mixer starts and tells the press that a batch is on its way (2). The batch's letters reach the press before the
- * recipe's: the press has message 2, but does not act on it before message 0, which causally precedes it.
+ * A recipe that is overtaken. The office sends the press a new recipe (message 0), then tells the mixer to start
+ * (1). The mixer starts and tells the press that a batch is on its way (2). The batch's letters reach the press
+ * before the recipe's: the press has message 2, but does not act on it before message 0, which causally precedes
+ * it.
  *
  * cc -Idist samples/overtaken.c dist/libengine.a -o overtaken && ./overtaken
  */
@@ -51,7 +52,8 @@ static void multicast(uint8_t from, uint8_t group) {
     uint32_t message = wt_messages(world);
     wt_put_multicast(step, from, WT_GROUP(group));
     check(take(step));
-    printf("%s sends message %u to group %u: %s\n", names[from], (unsigned)message, (unsigned)group, bodies[message]);
+    printf("%s sends message %u to group %u: %s\n", names[from], (unsigned)message, (unsigned)group,
+           bodies[message]);
     act();
 }
 

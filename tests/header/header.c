@@ -1,6 +1,6 @@
 /*
- * Prints what the header states beside its declarations: sizes, the refusals' words, records written by its functions,
- * and what its functions read from a world. The wrapper's tests hold the wrapper to the same lines.
+ * Prints what the header states beside its declarations: sizes, the refusals' words, records written by its
+ * functions, and what its functions read from a world. The wrapper's tests hold the wrapper to the same lines.
  */
 #include <stdio.h>
 #include <wardrobeteal.h>
@@ -15,14 +15,14 @@ static void print_record(const char *what, const uint8_t *record) {
 }
 
 static void print_sizes(void) {
-    printf("sizes: %d processes, %d groups, %d messages, %d words\n", (int)WT_PROCESSES, (int)WT_GROUPS, (int)WT_MESSAGES,
-           (int)WT_WORLD_WORDS);
+    printf("sizes: %d processes, %d groups, %d messages, %d words\n", (int)WT_PROCESSES, (int)WT_GROUPS,
+           (int)WT_MESSAGES, (int)WT_WORLD_WORDS);
     printf("journal: %d bytes, %d records of %d bytes\n", (int)WT_JOURNAL_BYTES, (int)WT_JOURNAL_RECORDS,
            (int)WT_RECORD_BYTES);
-    printf("blocks: %s\n",
-           WT_JOURNAL_BLOCKS * WT_BLOCK_BYTES == WT_JOURNAL_BYTES && WT_JOURNAL_BLOCKS * WT_BLOCK_RECORDS == WT_JOURNAL_RECORDS
-               ? "as many as the bytes and the records"
-               : "wrong");
+    printf("blocks: %s\n", WT_JOURNAL_BLOCKS * WT_BLOCK_BYTES == WT_JOURNAL_BYTES &&
+                                   WT_JOURNAL_BLOCKS * WT_BLOCK_RECORDS == WT_JOURNAL_RECORDS
+                               ? "as many as the bytes and the records"
+                               : "wrong");
     printf("a whole settle: %d arrivals\n", (int)WT_SETTLE_ALL);
 }
 
@@ -66,8 +66,8 @@ static void print_letters(void) {
             for (q = 0; q <= WT_PROCESSES; q++)
                 for (p = 0; p <= WT_PROCESSES; p++)
                     if (wt_in_flight(world, k, m, q, p))
-                        printf("in flight: message %u, kind %u, from %u, to %u\n", (unsigned)m, (unsigned)k, (unsigned)q,
-                               (unsigned)p);
+                        printf("in flight: message %u, kind %u, from %u, to %u\n", (unsigned)m, (unsigned)k,
+                               (unsigned)q, (unsigned)p);
 }
 
 static uint32_t take(const uint8_t *step) { return wt_step(world, WT_WORLD_WORDS, step, WT_RECORD_BYTES); }
