@@ -1,7 +1,7 @@
 //! What stands on the lines of processes.
 
 use super::canvas::{colour, Canvas, Point, ALARM, BOLD_MIDDLE, FAINT, GREY, HALO, INK, SMALL_MIDDLE};
-use super::places::{caption, end_words, Places};
+use super::places::{caption, end_words, Places, WORDS};
 use crate::run::{Run, What};
 
 /// The records of the journal, over the columns that they lead to.
@@ -103,7 +103,7 @@ pub fn trust(canvas: &mut Canvas, at: Point) {
 pub fn ends(canvas: &mut Canvas, run: &Run, places: &Places) {
     for process in 0..run.groups.len() as u8 {
         for (i, words) in end_words(run, process).iter().enumerate() {
-            let at = (places.end + 14.0, places.y(process) - 4.0 + 16.0 * i as f64);
+            let at = (places.end + 14.0, places.y(process) - 4.0 + f64::from(WORDS) * i as f64);
             canvas.text(at, if i < 2 { INK } else { ALARM }, "", words);
         }
     }

@@ -9,6 +9,8 @@ const LEFT: i32 = 104;
 const TOP: i32 = 96;
 const LINE: i32 = 92;
 const BAND: i32 = 13;
+/// The height of a line of words right of the end.
+pub const WORDS: i32 = 16;
 const LEAST_WIDTH: i32 = 860;
 
 /// A message that waits at a process, from its FIFO delivery to its causal one or to the end.
@@ -18,7 +20,7 @@ pub struct Wait {
     pub message: u8,
     pub from: f64,
     pub to: f64,
-    /// Whether it waits at the end.
+    /// Whether it is not delivered in the end.
     pub still: bool,
     /// How far above the line: waits at the same time stand above each other.
     pub row: usize,
@@ -27,7 +29,10 @@ pub struct Wait {
 pub struct Places {
     /// The middle of each moment's column.
     columns: Vec<f64>,
+    /// The distance of two lines, that of the first one from the top, and that of the last one from the legend.
     line: i32,
+    top: i32,
+    below: i32,
     lines: i32,
     /// Where time begins and ends.
     pub start: f64,
@@ -49,9 +54,12 @@ impl Places {
         let waits = waits(run, &columns, f64::from(end));
         let rows = waits.iter().map(|wait| wait.row as i32 + 1).max().unwrap_or(0);
         let width = (end + 20 + end_width(run)).max(LEAST_WIDTH);
-        let line = LINE + BAND * (rows - 1).max(0);
         let lines = run.groups.len() as i32;
-        Places { columns, line, lines, start: f64::from(LEFT), end: f64::from(end), waits, width }
+        let words = (0..lines).map(|p| end_words(run, p as u8).len() as i32).max().unwrap_or(0);
+        let bands = BAND * (rows - 1).max(0);
+        let line = (LINE + bands).max(WORDS * (words + 1));
+        let (top, below) = (TOP + bands, (WORDS * words).max(56));
+        Places { columns, line, top, below, lines, start: f64::from(LEFT), end: f64::from(end), waits, width }
     }
 
     pub fn x(&self, moment: usize) -> f64 {
@@ -59,7 +67,7 @@ impl Places {
     }
 
     pub fn y(&self, process: u8) -> f64 {
-        f64::from(TOP + (self.line - LINE) + i32::from(process) * self.line)
+        f64::from(self.top + i32::from(process) * self.line)
     }
 
     pub fn at(&self, moment: usize, process: u8) -> Point {
@@ -73,7 +81,7 @@ impl Places {
 
     /// Where the diagram ends and the legend may begin.
     pub fn bottom(&self) -> i32 {
-        TOP + (self.line - LINE) + (self.lines - 1) * self.line + 56
+        self.top + (self.lines - 1) * self.line + self.below
     }
 }
 
