@@ -2,7 +2,7 @@
  * Wardrobeteal: the message engine for feed mill control software. FIFO and causal multicast among groups of
  * processes.
  *
- * For C99 or later and C++. Link with libengine.a, which is for x86-64 and calls nothing but memcpy and memset.
+ * For C99 or later and C++. Link with libengine.a, for x86-64 Linux, which calls nothing but memcpy and memset.
  *
  * Every call takes any storage, any step and any journal. It returns 0, or the number of a refusal (below); where
  * several apply, the one that the call's comment names first. A refused call changes nothing that was lent: no
