@@ -1,17 +1,19 @@
 -- The parts of an arrival on words, and one after the other. Assumes nothing.
-use mathlib.Core.Path.{_≡_, sym, ap, _∙_}
-use mathlib.Core.Bool.{Bool, true, false}
+use mathlib.Core.Path.{_≡_, refl, sym, ap, _∙_}
+use mathlib.Core.Bool.{Bool, true, false, not, _&&_}
 use mathlib.Core.List.{List}
 use Prim.Native.Nat.{ℕ, _<_}
 use lib.Dec.{eqb}
-use borrow.Author.Tests.{eq-eqb, ne-eqb}
+use borrow.Author.Tests.{eq-eqb, ne-eqb, not-true}
 use lib.ListN.{length, set}
 use Rattle.base.specs.Bits.{with, without}
-use Rattle.base.specs.Tests.{pick}
-use Rattle.world.specs.World.{held, marks, flight, addr, State, put, encode, view, Changes}
+use Rattle.base.specs.Tests.{pick, clash}
+use Rattle.world.specs.World.{held, marks, flight, addr, State, put, encode, view, Reads, Changes}
 use Rattle.world.specs.Layout.{encode-view, set-encode, reads-cell}
-use Rattle.world.specs.Machine.{addressees, in-turn, leave, mark, hold, arrival, cascade}
+use Rattle.world.specs.Machine.{addressees, in-turn, ready, leave, mark, hold, arrival, cascade}
 use Rattle.bounds.specs.Bounds.{Bounds, bounds-state, bounds-stored}
+use Rattle.keeps.specs.Cascade.{received}
+use Rattle.quiescence.specs.Quiescent.{QuiescentIf, cascade-none, received-quiescent}
 use Rattle.sends.specs.Sends.{sent, in-turn-words}
 
 -- ---- the bounds on the way
@@ -67,6 +69,12 @@ hold-none w m p hm hp ex h s e =
     e ∙ sym (ap (λ (b : Bool). encode (pick b s (answered s p m)))
     (eq-eqb (s (held p m)) 1 (sym (ex ∙ reads-cell w (held p m) (hp, hm) s e) ∙ h)))
 
+-- whether it was held
+pub held-read : (w : List ℕ) (m p : ℕ) {x : ℕ} {b : Bool} → m < 64 → p < 16 → x ≡ view w (held p m) → eqb x 1 ≡ b
+    → Reads w b (λ s. eqb (s (held p m)) 1)
+held-read w m p hm hp ex eb s e =
+    sym eb ∙ ap (λ (y : ℕ). eqb y 1) (ex ∙ reads-cell w (held p m) (hp, hm) s e)
+
 pub hold-law : (w u : List ℕ) (m p : ℕ) {x k : ℕ} {b : Bool} → Bounds (view w) → m < 64 → p < 16
     → x ≡ view w (held p m) → (x ≡ 1 → ⊥) → b ≡ in-turn (view w) p m → k ≡ pick b 2 1
     → Changes (set w (addr (held p m)) 1) u (λ s. sent s p m k) → Changes w u (λ s. hold s p m)
@@ -83,9 +91,31 @@ hold-law w u m p {x} {k} {b} bounds hm hp ex n eb ek c s e =
     (ne-eqb (s (held p m)) 1 (λ z. n (ex ∙ reads-cell w (held p m) (hp, hm) s e ∙ z))))
 
 -- ---- the parts one after the other
-pub arrival-law : (w u1 u2 u3 u4 : List ℕ) (k m q p : ℕ) → length w ≡ 20480
+-- before the cascade
+pub received-law : (w u1 u2 u3 : List ℕ) (k m q p : ℕ) → length w ≡ 20480
     → Changes w u1 (λ s. leave s k m q p)
-    → Changes u1 u2 (λ s. mark s k m q p) → Changes u2 u3 (λ s. hold s p m) → Changes u3 u4 (λ s. cascade s p)
-    → u4 ≡ encode (arrival (view w) k m q p)
+    → Changes u1 u2 (λ s. mark s k m q p) → Changes u2 u3 (λ s. hold s p m)
+    → u3 ≡ encode (received (view w) k m q p)
+received-law w u1 u2 u3 k m q p l c1 c2 c3 = c3 _ (c2 _ (c1 (view w) (sym (encode-view w l))))
+
+-- a cascade that has nothing to do
+pub over-law : (s : State) (k m q p : ℕ) (b : Bool) → QuiescentIf b s p
+    → true ≡ (b && not (ready (received s k m q p) p m)) → arrival s k m q p ≡ received s k m q p
 unfolding arrival
-arrival-law w u1 u2 u3 u4 k m q p l c1 c2 c3 c4 = c4 _ (c3 _ (c2 _ (c1 (view w) (sym (encode-view w l)))))
+over-law s k m q p true h e =
+    cascade-none (received s k m q p) p (received-quiescent k m q p s h (not-true _ (sym e)))
+over-law s k m q p false h e = clash refl e
+
+-- what is known where an arrival was only that of a mark
+abbrev pub MarkOnly : Bool → State → ℕ → ℕ → ℕ → ℕ → Type 0
+MarkOnly true s k m q p = arrival s k m q p ≡ mark (leave s k m q p) k m q p
+MarkOnly false s k m q p = Unit {0}
+
+pub mark-only : (s : State) (k m q p : ℕ) (b : Bool)
+    → b ≡ eqb (mark (leave s k m q p) k m q p (held p m)) 1
+    → arrival s k m q p ≡ received s k m q p → MarkOnly b s k m q p
+unfolding hold answered
+mark-only s k m q p true e o =
+    let u : State = mark (leave s k m q p) k m q p in
+    o ∙ ap (λ (b : Bool). pick b u (answered u p m)) (sym e)
+mark-only s k m q p false e o = tt

@@ -28,7 +28,7 @@ pub fn step(w: &mut [u16], bytes: &[u8]) -> Outcome
     if let Outcome::Refused(r) = tested(w) {
         return Outcome::Refused(r);
     }
-    stepping::step(w, bytes)
+    stepping::step(w, bytes, false)
 }
 
 // The length of the FIFO or the causal log of process p: 1, 2, then 5.

@@ -16,9 +16,14 @@ pub fn first_deliverable(w: &[u16], p: usize) -> usize
         w,
         cells::PROCESSES + p * cells::PROCESS + cells::FIFO_LENGTH,
     );
+    let k = cells::word(
+        w,
+        cells::PROCESSES + p * cells::PROCESS + cells::CAUSAL_LENGTH,
+    );
+    let listed = sets::members(w, cells::PROCESSES + p * cells::PROCESS + cells::CAUSAL, k);
     let mut i: usize = 0;
     while i < n {
-        if deliverable::can_deliver(w, p, i) {
+        if deliverable::can_deliver(w, p, i, listed) {
             return i;
         }
         i += 1;

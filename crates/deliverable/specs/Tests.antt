@@ -1,17 +1,19 @@
 -- The test "deliverable-at", read off words. Assumes nothing.
-use mathlib.Core.Path.{_≡_, sym, ap, ap₂, _∙_}
+use mathlib.Core.Path.{_≡_, refl, sym, ap, ap₂, _∙_}
 use mathlib.Core.Bool.{Bool, true, false, not}
 use mathlib.Core.List.{List}
 use Prim.Native.Nat.{ℕ, _<_}
 use native.Mathlib.Omega.{arith}
 use lib.Dec.{leb, eqb}
 use borrow.Author.Tests.{eq-eqb, ne-eqb}
+use Rattle.base.specs.Bits.{bit}
 use Rattle.base.specs.Count.{absent}
 use Rattle.base.specs.Search.{every, every-cong}
 use Rattle.base.specs.Tests.{both, either}
 use Rattle.bounds.specs.Bounds.{Bounds, bounds-state}
 use Rattle.world.specs.Layout.{get-encode}
-use Rattle.world.specs.Machine.{fits, deliverable, deliverable-at}
+use Rattle.sets.specs.Members.{Members}
+use Rattle.world.specs.Machine.{outside-causal, fits, deliverable, deliverable-at}
 use Rattle.world.specs.World.{size, group, delivered, causal-length, fifo, causal, sender, stamp, State, encode, view, Reads}
 
 -- ---- what the tests read of words
@@ -56,16 +58,26 @@ pub fits-other : (s : State) (p g m q : ℕ) → (s (sender m) ≡ q → ⊥) �
     → fits s p m q ≡ leb (s (stamp m g q)) (s (delivered p q))
 fits-other s p g m q n e = rw (ne-eqb q (s (sender m)) (λ z. n (sym z)), e)
 
-pub deliver-yes : (s : State) (p i m n : ℕ) {r : Bool} → m ≡ s (fifo p i) → n ≡ s (causal-length p)
-    → absent n m (λ j. s (causal p j)) ≡ true → r ≡ every (s size) (fits s p m) → r ≡ deliverable-at s p i
-unfolding deliverable-at deliverable
-deliver-yes s p i m n em en a e =
-    e ∙ sym (ap (λ (b : Bool). both b (every (s size) (fits s p m))) a)
-    ∙ ap₂ (λ (x y : ℕ). both (absent x y (λ j. s (causal p j))) (every (s size) (fits s p y))) en em
+-- ---- the causal log of p as a set of messages
+abbrev pub Listed : State → ℕ → ℕ → Type 0
+Listed s p set = Members set (s (causal-length p)) (λ j. s (causal p j))
 
-pub deliver-no : (s : State) (p i m n : ℕ) → m ≡ s (fifo p i) → n ≡ s (causal-length p)
-    → absent n m (λ j. s (causal p j)) ≡ false → false ≡ deliverable-at s p i
-unfolding deliverable-at deliverable
-deliver-no s p i m n em en a =
-    sym (ap (λ (b : Bool). both b (every (s size) (fits s p m))) a)
-    ∙ ap₂ (λ (x y : ℕ). both (absent x y (λ j. s (causal p j))) (every (s size) (fits s p y))) en em
+-- whether a member of the FIFO log is outside it
+module _ (s : State) (p i m set : ℕ) (em : m ≡ s (fifo p i)) (hm : m < 64) (h : Listed s p set) where
+  outside-is : {b : Bool} → bit set m ≡ b → outside-causal s p (s (fifo p i)) ≡ not b
+  outside-is {b} e =
+      ap (outside-causal s p) (sym em) ∙ sym (twice (outside-causal s p m)) ∙ ap not (sym (h m hm) ∙ e)
+    where
+      twice : (b : Bool) → not (not b) ≡ b
+      twice true = refl
+      twice false = refl
+
+  pub deliver-yes : {r : Bool} → bit set m ≡ false → r ≡ every (s size) (fits s p m) → r ≡ deliverable-at s p i
+  unfolding deliverable-at deliverable
+  deliver-yes b e =
+      e ∙ ap (λ (y : ℕ). every (s size) (fits s p y)) em
+      ∙ sym (ap (λ (x : Bool). both x (every (s size) (fits s p (s (fifo p i))))) (outside-is b))
+
+  pub deliver-no : bit set m ≡ true → false ≡ deliverable-at s p i
+  unfolding deliverable-at deliverable
+  deliver-no b = sym (ap (λ (x : Bool). both x (every (s size) (fits s p (s (fifo p i))))) (outside-is b))

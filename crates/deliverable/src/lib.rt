@@ -7,6 +7,7 @@ ghost use Rattle.base.specs.Search.{every};
 ghost use Rattle.world.specs.Machine.{fits, deliverable-at};
 ghost use Rattle.world.specs.World.{Reads, view, size, group};
 ghost use Rattle.bounds.specs.Bounds.{Bounds};
+ghost use Rattle.deliverable.specs.Tests.{Listed};
 
 // None of the n words from at on is m.
 pub fn absent_from(w: &[u16], at: usize, n: usize, m: usize) -> bool
@@ -52,23 +53,14 @@ pub fn fits_all(w: &[u16], p: usize, m: usize) -> bool
     true
 }
 
-// Whether item i of p's FIFO log is outside the causal log and deliverable.
-pub fn can_deliver(w: &[u16], p: usize, i: usize) -> bool
-    requires { ⌜ (length (now w) ≡ 20480) × (p < 16) × (i < 64) × Bounds (view (now w)) ⌝ }
+// Whether item i of p's FIFO log is outside the causal log, whose members are given, and deliverable.
+pub fn can_deliver(w: &[u16], p: usize, i: usize, listed: u64) -> bool
+    requires { ⌜ (length (now w) ≡ 20480) × (p < 16) × (i < 64) × Bounds (view (now w)) × Listed (view (now w)) p listed ⌝ }
     ensures { λ r. ⌜ Reads (now (w .entry)) r (λ s. deliverable-at s p i) ⌝ }
 {
     let m = cells::word(w, cells::PROCESSES + p * cells::PROCESS + cells::FIFO + i);
-    let n = cells::word(
-        w,
-        cells::PROCESSES + p * cells::PROCESS + cells::CAUSAL_LENGTH,
-    );
-    if absent_from(
-        w,
-        cells::PROCESSES + p * cells::PROCESS + cells::CAUSAL,
-        n,
-        m,
-    ) {
-        return fits_all(w, p, m);
+    if sets::has(listed, m) {
+        return false;
     }
-    false
+    fits_all(w, p, m)
 }

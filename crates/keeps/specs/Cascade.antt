@@ -244,10 +244,14 @@ hold-frame s p m = go (eqb (s (held p m)) 1)
     go true = refl
     go false = refl
 
-pub arrival-sound : (s : State) (k m q p : ℕ) → k < 3 → m < s count → q < s size → p < s size
-    → bit (s (flight m k q)) p ≡ true → Sound s → Sound (arrival s k m q p)
-unfolding arrival leave put
-arrival-sound s k m q p hk hm hq hp e h =
+-- An arrival before its cascade: the letter has left flight, an OK has set its mark, the message is held.
+abbrev pub received : State → ℕ → ℕ → ℕ → ℕ → State
+received s k m q p = hold (mark (leave s k m q p) k m q p) p m
+
+pub received-sound : (s : State) (k m q p : ℕ) → k < 3 → m < s count → q < s size → p < s size
+    → bit (s (flight m k q)) p ≡ true → Sound s → SoundAt p (received s k m q p)
+unfolding leave put
+received-sound s k m q p hk hm hq hp e h =
     let room : (m < 64) × (q < 16) × (p < 16) = omega (arith, count-high s h, size-high s h) in
     let z = letter-facts s h k m q p hk (room .0) (room .1) (room .2) e in
     let t : State = leave s k m q p in
@@ -260,5 +264,10 @@ arrival-sound s k m q p hk hm hq hp e h =
       of = ap (λ (x : Frame). message x m) f ∙ z .of;
       to = ap (λ (x : Frame). addressee x m p) f ∙ z .to;
     }) hu in
-    cascade-sound (hold u p m) p
     (hv, subst (λ (n : ℕ). p < n) (sym (ap (λ (x : Frame). x .n) (hold-frame u p m ∙ f))) hp)
+
+pub arrival-sound : (s : State) (k m q p : ℕ) → k < 3 → m < s count → q < s size → p < s size
+    → bit (s (flight m k q)) p ≡ true → Sound s → Sound (arrival s k m q p)
+unfolding arrival
+arrival-sound s k m q p hk hm hq hp e h =
+    cascade-sound (received s k m q p) p (received-sound s k m q p hk hm hq hp e h)

@@ -6,36 +6,34 @@ ghost use Rattle.base.specs.Search.{every};
 ghost use Rattle.world.specs.World.{size, view, Reads};
 ghost use Rattle.world.specs.Machine.{marked, ready};
 ghost use Rattle.bounds.specs.Bounds.{Bounds};
-ghost use Rattle.ready.specs.Ready.{lowest};
+ghost use Rattle.ready.specs.Ready.{trusted-unmarked, lowest};
 
-// Whether p has q's mark for message m, or waits for none.
-pub fn is_marked(w: &[u16], p: usize, m: usize, q: usize) -> bool
-    requires { ⌜ (length (now w) ≡ 20480) × (p < 16) × (m < 64) × (q < 16) × Bounds (view (now w)) ⌝ }
-    ensures { λ r. ⌜ r ≡ marked (view (now (w .entry))) p m q ⌝ }
+// The processes that p trusts and whose mark for message m it lacks.
+fn unmarked(w: &[u16], p: usize, m: usize) -> u16
+    requires { ⌜ (length (now w) ≡ 20480) × (p < 16) × (m < 64) ⌝ }
+    ensures { λ r. ⌜ r ≡ trusted-unmarked (view (now (w .entry))) p m ⌝ }
 {
     let t = w[cells::PROCESSES + p * cells::PROCESS + cells::TRUST];
-    if !masks::test(t, q) {
-        return true;
-    }
-    if !sends::is_addressed(w, m, q) {
-        return true;
-    }
     let k = w[cells::PROCESSES + p * cells::PROCESS + cells::MARKS + m];
-    masks::test(k, q)
+    t & (t ^ k)
 }
 
-// Whether p waits for no mark for message m.
+// Whether p waits for no mark for message m: none of these is an addressee.
 pub fn marked_all(w: &[u16], p: usize, m: usize) -> bool
     requires { ⌜ (length (now w) ≡ 20480) × (p < 16) × (m < 64) × Bounds (view (now w)) ⌝ }
     ensures { λ r. ⌜ r ≡ every (view (now (w .entry)) size) (marked (view (now (w .entry))) p m) ⌝ }
 {
     let n = cells::word(w, cells::SIZE);
-    let mut q: usize = 0;
-    while q < n {
-        if !is_marked(w, p, m, q) {
+    let mut left = unmarked(w, p, m);
+    while left != 0 {
+        let q = masks::lowest(left) as usize;
+        if n <= q {
+            return true;
+        }
+        if sends::is_addressed(w, m, q) {
             return false;
         }
-        q += 1;
+        left = masks::clear(left, q);
     }
     true
 }
@@ -51,14 +49,14 @@ pub fn is_ready(w: &[u16], p: usize, m: usize) -> bool
     if !sends::in_turn(w, p, m) {
         return false;
     }
+    if !marked_all(w, p, m) {
+        return false;
+    }
     let n = cells::word(
         w,
         cells::PROCESSES + p * cells::PROCESS + cells::FIFO_LENGTH,
     );
-    if !deliverable::absent_from(w, cells::PROCESSES + p * cells::PROCESS + cells::FIFO, n, m) {
-        return false;
-    }
-    marked_all(w, p, m)
+    deliverable::absent_from(w, cells::PROCESSES + p * cells::PROCESS + cells::FIFO, n, m)
 }
 
 // The lowest message that p can deliver in FIFO order, or the count.

@@ -1,3 +1,4 @@
 pub mod Letters
 pub mod Search
+pub mod Places
 pub mod Settling

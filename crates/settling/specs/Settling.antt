@@ -1,16 +1,26 @@
 -- Settle as its loop goes: a letter more arrives, or there is none, or the budget is used up. What holds of a sound
 -- world holds of it after each arrival. Assumes nothing.
-use mathlib.Core.Path.{_≡_, refl, ap, _∙_}
+use mathlib.Core.Path.{_≡_, refl, sym, ap, subst, _∙_}
+use mathlib.Core.Bool.{Bool, true, false}
+use mathlib.Core.Logic.{_⊎_, inl, inr}
 use mathlib.Core.List.{List}
 use Prim.Native.Nat.{ℕ, zero, suc, _+_, _-_, _≤_, _<_}
 use native.Mathlib.Omega.{arith}
-use Rattle.world.specs.World.{State, encode, view}
+use Rattle.base.specs.Tests.{clash}
+use Rattle.base.specs.Bits.{bit, with, mask-of, bit-zero, with-cases}
+use Rattle.world.specs.World.{size, State, encode, view}
 use Rattle.world.specs.SoundLaws.{size-high, count-high, sound-words}
-use Rattle.world.specs.Layout.{length-encode}
-use Rattle.world.specs.Steps.{arrives, step}
+use Rattle.world.specs.Layout.{length-encode, get-encode}
+use Rattle.world.specs.Steps.{arrives, step, is-up}
 use Rattle.world.specs.StepLaws.{moves-taken, lowest-moves}
 use Rattle.keeps.specs.Keeps.{SoundWords, step-sound}
 use Rattle.world.specs.Machine.{arrival}
+use Rattle.quiescence.specs.Quiescent.{Quiescent, QuiescentIf, arrival-quiescent}
+use Rattle.bounds.specs.Bounds.{sound-bounds}
+use Rattle.ready.specs.Ready.{quiescent-words}
+use Rattle.arrivals.specs.Arrival.{MarkOnly}
+use Rattle.settling.specs.Places.{Passed, next-place, start-passed, still-up, passed-on}
+use Rattle.settling.specs.declared.Place.{Place}
 use Rattle.world.specs.Settle.{Choice, letter, nothing, done, stopped, Settled, lowest, settle-from}
 
 -- The choice and the arrival, on words.
@@ -57,6 +67,18 @@ settle-stopped b n w k m q p h e =
     ∙ ap (λ (c : Choice). with-choice c (λ k m q p. record { world = w; ending = stopped n })
     (record { world = w; ending = done n })) e
 
+-- ---- the processes of a mask are quiescent
+abbrev pub Rested : ℕ → State → Type 0
+Rested mask s = (r : ℕ) → r < 16 → bit mask r ≡ true → Quiescent s r
+
+pub rested-none : (s : State) → Rested 0 s
+rested-none s r l e = clash e (bit-zero r)
+
+pub rested-known : (mask : ℕ) (s : State) (p : ℕ) (b : Bool) → Rested mask s → p < 16 → b ≡ bit mask p
+    → QuiescentIf b s p
+rested-known mask s p true h l e = h p l (sym e)
+rested-known mask s p false h l e = tt
+
 -- ---- a sound world
 -- the lowest letter is one of the world's
 pub letter-within : (w : List ℕ) (k m q p : ℕ) → SoundWords w → lowest (view w) ≡ letter k m q p
@@ -81,3 +103,54 @@ arrived-sound w k m q p h e =
       long = length-encode s;
       reads = sound-words (encode s) s refl (step-sound (view w) (arrives k m q p) a (h .reads));
     }
+
+-- its receiver is quiescent, and whoever was
+pub rested-on : (w : List ℕ) (k m q p mask : ℕ) → SoundWords w → lowest (view w) ≡ letter k m q p
+    → Rested mask (view w) → Rested (with mask p) (view (arrive-words w k m q p))
+unfolding step
+rested-on w k m q p mask h e old r l b =
+    let s : State = arrival (view w) k m q p in
+    let a = lowest-moves (view w) k m q p e in
+    let sound = step-sound (view w) (arrives k m q p) (moves-taken (view w) k m q p a) (h .reads) in
+    quiescent-words s r (sound-bounds s sound) l
+    (arrival-quiescent (view w) k m q p (h .reads) (a .letter) r (λ d. before d (with-cases mask p r b)))
+  where
+    before : (p ≡ r → ⊥) → (bit mask r ≡ true) ⊎ (p ≡ r) → Quiescent (view w) r
+    before d (inl b) = old r l b
+    before d (inr z) = absurd (d z)
+
+-- ---- what the loop of settle keeps of words w: a mask of the up processes, one of quiescent processes, and a place
+pub record Going (w : List ℕ) (live mask : ℕ) (at : Place) : Type 0 where
+  pub sound : SoundWords w
+  pub ups : live ≡ mask-of (view w size) (is-up (view w))
+  pub rested : Rested mask (view w)
+  pub passed : Passed (view w) at
+
+pub going-first : (w : List ℕ) (live : ℕ) → SoundWords w → live ≡ mask-of (view w size) (is-up (view w))
+    → Going w live 0 (record { message = 0; kind = 0; origin = 0 })
+going-first w live h e = record {
+  sound = h;
+  ups = e;
+  rested = rested-none (view w);
+  passed = start-passed (view w);
+}
+
+-- through the arrival of the lowest letter
+pub going-on : {w u : List ℕ} {k m q p live mask mask′ : ℕ} {at at′ : Place} (b : Bool) → Going w live mask at
+    → lowest (view w) ≡ letter k m q p → u ≡ arrive-words w k m q p → MarkOnly b (view w) k m q p
+    → mask′ ≡ with mask p → at′ ≡ next-place (view u) live (record { message = m; kind = k; origin = q }) p b
+    → Going u live mask′ at′
+going-on {w} {u} {k} {m} {q} {p} {live} {mask} {mask′} {at} {at′} b g e eu only em ea =
+    let t : State = arrival (view w) k m q p in
+    let v : List ℕ = arrive-words w k m q p in
+    let here : Place = record { message = m; kind = k; origin = q } in
+    let on : Going v live (with mask p) (next-place (view v) live here p b) =
+    record {
+      sound = arrived-sound w k m q p (g .sound) e;
+      ups = still-up (view w) (view v) k m q p live (g .sound .reads) e (g .ups) (get-encode t);
+      rested = rested-on w k m q p mask (g .sound) e (g .rested);
+      passed = passed-on (view w) (view v) k m q p live (g .sound .reads) e (g .ups) (get-encode t) b only;
+    } in
+    subst (Going u live mask′) (sym ea)
+    (subst (λ (x : ℕ). Going u live x (next-place (view u) live here p b)) (sym em)
+    (subst (λ (x : List ℕ). Going x live (with mask p) (next-place (view x) live here p b)) (sym eu) on))

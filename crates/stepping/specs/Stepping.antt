@@ -19,6 +19,7 @@ use Rattle.world.specs.declared.Refusal.{Refusal}
 use Rattle.world.specs.declared.Refusal.the-variants.{Malformed}
 use Rattle.world.specs.declared.Outcome.{Outcome}
 use Rattle.world.specs.declared.Outcome.the-variants.{Taken, Refused}
+use Rattle.quiescence.specs.Quiescent.{QuiescentIf, AllQuiescentIf, one-of-all}
 use Rattle.bounds.specs.Bounds.{Bounds, sound-bounds}
 use Rattle.refusals.specs.Refused.{refusal-some}
 use Rattle.multicasts.specs.Raise.{Low}
@@ -63,12 +64,13 @@ module _ (w : List ℕ) (l : length w ≡ 20480) (h : Sound (view w)) where
       let k = process p (a .process) in
       (l, k, a .room, sound-bounds s h, sound-low s p k h)
 
-  pub can-arrive : (k m q p : ℕ) → refusal s (arrives k m q p) ≡ 0
-      → (length w ≡ 20480) × (k < 3) × (m < 64) × (q < 16) × (p < 16) × Bounds s
-  can-arrive k m q p e =
+  pub can-arrive : (k m q p : ℕ) (b : Bool) → AllQuiescentIf b s → refusal s (arrives k m q p) ≡ 0
+      → (length w ≡ 20480) × (k < 3) × (m < 64) × (q < 16) × (p < 16) × Bounds s × QuiescentIf b s p
+  can-arrive k m q p b all e =
       let a = accepted-arrival s k m q p (eq-eqb _ 0 e) .letter in
       let x : m < 64 = omega (arith, a .message, count-high s h) in
-      (l, a .kind, x, process q (a .from), process p (a .to), sound-bounds s h)
+      let z : p < 16 = process p (a .to) in
+      (l, a .kind, x, process q (a .from), z, sound-bounds s h, one-of-all b s p z all)
 
   pub can-lose : (k m q p : ℕ) → refusal s (loses k m q p) ≡ 0
       → (length w ≡ 20480) × (k < 3) × (m < 64) × (q < 16) × (p < 16)

@@ -1,5 +1,6 @@
 // A step of a sound world, for callers that know it to be sound: no word is tested for soundness. A refusal
-// changes nothing.
+// changes nothing. Who knows that all processes are quiescent says so, and spares an arrival the search for ready
+// messages.
 use given::Given;
 use world::Outcome;
 use world::Refusal;
@@ -9,6 +10,7 @@ ghost use Rattle.world.specs.World.{view, encode};
 ghost use Rattle.world.specs.Sound.{Sound};
 ghost use Rattle.world.specs.Steps.{multicasts, arrives, loses, trusts, crashes, read, refusal, after};
 ghost use Rattle.world.specs.Answers.{outcome-number};
+ghost use Rattle.quiescence.specs.Quiescent.{AllQuiescentIf};
 
 // A multicast by p to the groups of a mask.
 fn multicast(w: &mut [u16], p: usize, groups: u16) -> Outcome
@@ -26,15 +28,15 @@ fn multicast(w: &mut [u16], p: usize, groups: u16) -> Outcome
 }
 
 // The arrival of the letter of kind k for message m from q at p.
-pub fn arrival(w: &mut [u16], k: usize, m: usize, q: usize, p: usize) -> Outcome
-    requires { ⌜ (length (now w) ≡ 20480) × Sound (view (now w)) ⌝ }
+fn arrival(w: &mut [u16], k: usize, m: usize, q: usize, p: usize, quiescent: bool) -> Outcome
+    requires { ⌜ (length (now w) ≡ 20480) × Sound (view (now w)) × AllQuiescentIf quiescent (view (now w)) ⌝ }
     ensures answer { λ r. ⌜ outcome-number r ≡ refusal (view (now (w .entry))) (arrives k m q p) ⌝ }
     ensures words { λ _. ⌜ now (w .exit) ≡ encode (after (view (now (w .entry))) (arrives k m q p)) ⌝ }
 {
     match refusals::of_arrival(w, k, m, q, p) {
         Outcome::Refused(r) => Outcome::Refused(r),
         Outcome::Taken => {
-            arrivals::arrive(w, k, m, q, p);
+            arrivals::arrive(w, k, m, q, p, quiescent);
             Outcome::Taken
         }
     }
@@ -86,14 +88,14 @@ fn crash(w: &mut [u16], p: usize) -> Outcome
 }
 
 // The step that the bytes ask for.
-pub fn step(w: &mut [u16], bytes: &[u8]) -> Outcome
-    requires { ⌜ (length (now w) ≡ 20480) × Sound (view (now w)) ⌝ }
+pub fn step(w: &mut [u16], bytes: &[u8], quiescent: bool) -> Outcome
+    requires { ⌜ (length (now w) ≡ 20480) × Sound (view (now w)) × AllQuiescentIf quiescent (view (now w)) ⌝ }
     ensures answer { λ r. ⌜ outcome-number r ≡ refusal (view (now (w .entry))) (read (now (bytes .entry))) ⌝ }
     ensures words { λ _. ⌜ now (w .exit) ≡ encode (after (view (now (w .entry))) (read (now (bytes .entry)))) ⌝ }
 {
     match given::take(bytes) {
         Given::Multicast(p, groups) => multicast(w, p, groups),
-        Given::Arrival(k, m, q, p) => arrival(w, k, m, q, p),
+        Given::Arrival(k, m, q, p) => arrival(w, k, m, q, p, quiescent),
         Given::Loss(k, m, q, p) => loss(w, k, m, q, p),
         Given::Trust(p, set) => trust(w, p, set),
         Given::Crash(p) => crash(w, p),

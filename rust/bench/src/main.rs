@@ -1,71 +1,45 @@
-//! `bench WORLD SIDE` makes a world and tests its soundness once: WORLD is full (16 processes, 64 messages, all
-//! delivered), flying (the same with every first letter in flight) or fresh (16 processes, no message); SIDE is
-//! archive or reference. The test stands in a function of its own, whose instructions are counted.
+//! `bench CASE SIDE [PROCESSES MESSAGES]` makes what a case needs and runs the call that it is about, on the side
+//! archive or reference; the instructions of that call are counted from outside. It prints how many units (words,
+//! steps, arrivals, records) the call had to do with.
+//!
+//! A world has PROCESSES processes, two to a group and at most 8 groups, and MESSAGES messages to all groups, from each
+//! process in turn; 16 and 64 where nothing is said.
 
-use reference::{calls, record, sound};
+mod cases;
+mod sides;
+
 use std::process::ExitCode;
 
-extern "C" {
-    fn wt_bench_sound(words: *const u16, length: usize) -> u32;
-}
-
-const WORDS: usize = 20_480;
-const EVERYTHING: u32 = 33_792;
-
-/// 16 processes, two in each group.
-fn fresh() -> Vec<u16> {
-    let groups: Vec<usize> = (0..16).map(|p| p / 2).collect();
-    let mut words = vec![0; WORDS];
-    calls::make(&mut words, &record::setup(&groups)).expect("the setup is right");
-    words
-}
-
-/// The same after 64 messages to all groups, from each process in turn.
-fn flying() -> Vec<u16> {
-    let mut words = fresh();
-    for m in 0..64 {
-        calls::step(&mut words, &record::multicast(m % 16, 0xFF)).expect("a multicast is taken");
-    }
-    words
-}
-
-fn full() -> Vec<u16> {
-    let mut words = flying();
-    calls::settle(&mut words, EVERYTHING).expect("the world is sound");
-    words
-}
-
-#[no_mangle]
-#[inline(never)]
-pub fn reference_sound(words: &[u16]) -> bool {
-    sound::read(words).is_ok()
-}
-
-/// A pointer to live words with their length, which the archive only reads.
-fn archive_sound(words: &[u16]) -> bool {
-    unsafe { wt_bench_sound(words.as_ptr(), words.len()) == 0 }
-}
+const USAGE: &str = "bench CASE archive|reference [PROCESSES MESSAGES]";
 
 fn main() -> ExitCode {
     let arguments: Vec<String> = std::env::args().skip(1).collect();
-    let names: Vec<&str> = arguments.iter().map(String::as_str).collect();
-    let [world, side] = names[..] else {
-        eprintln!("bench full|flying|fresh archive|reference");
-        return ExitCode::from(2);
+    let number = |at: usize, default: usize| match arguments.get(at) {
+        Some(word) => word.parse().ok(),
+        None => Some(default),
     };
-    let words = match world {
-        "full" => full(),
-        "flying" => flying(),
-        _ => fresh(),
+    let (case, side) = match &arguments[..] {
+        [case, side, ..] => (case.as_str(), side.as_str()),
+        _ => ("", ""),
     };
-    let sound = match side {
-        "archive" => archive_sound(&words),
-        _ => reference_sound(&words),
+    let sides = match side {
+        "archive" => Some(&sides::ARCHIVE),
+        "reference" => Some(&sides::REFERENCE),
+        _ => None,
     };
-    if sound {
-        ExitCode::SUCCESS
-    } else {
-        eprintln!("the world is not sound");
-        ExitCode::FAILURE
+    match (sides, number(2, 16), number(3, 64)) {
+        (Some(side), Some(processes), Some(messages)) => match cases::run(case, side, processes, messages) {
+            Some(units) => {
+                println!("{units}");
+                ExitCode::SUCCESS
+            }
+            None => usage(),
+        },
+        _ => usage(),
     }
+}
+
+fn usage() -> ExitCode {
+    eprintln!("{USAGE}");
+    ExitCode::from(2)
 }

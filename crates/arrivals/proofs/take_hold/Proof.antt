@@ -1,7 +1,8 @@
 -- `arrivals::take_hold` meets its contract. Assumes nothing.
 use mathlib.Core.Path.{_∙_}
 use lib.ListN.{length-set}
-use Rattle.arrivals.specs.Arrival.{bounds-held, hold-none, hold-law}
+use borrow.Author.Tests.{eq-eqb, ne-eqb}
+use Rattle.arrivals.specs.Arrival.{bounds-held, held-read, hold-none, hold-law}
 use borrow.Author.Needs.{needs}
 use Rattle.arrivals.proofs.take_hold.Statement.{statement}
 use Rattle.arrivals.proofs.take_hold.Tie as tie
@@ -28,9 +29,13 @@ returns : tie.Need-returns
 returns c =
     let b = c .before .before .before .before in
     let a = b .args in (
-      b .pre .0,
-      hold-none (a .w .now) (a .m) (a .p) (b .pre .1) (b .pre .2) (c .before .word .ensures)
-          (c .if1 .taken),
+      held-read (a .w .now) (a .m) (a .p) (b .pre .1) (b .pre .2) (c .before .word .ensures)
+          (eq-eqb _ 1 (c .if1 .taken)),
+      (
+        b .pre .0,
+        hold-none (a .w .now) (a .m) (a .p) (b .pre .1) (b .pre .2) (c .before .word .ensures)
+            (c .if1 .taken),
+      ),
     )
 
 in-turn-requires : tie.Need-in-turn-requires
@@ -80,10 +85,14 @@ returns-2 c =
     let i = t .before .before in
     let b = i .before .before .before .before in
     let a = b .args in (
-      o .send .ensures .0,
-      hold-law (a .w .now) _ (a .m) (a .p) (b .pre .3) (b .pre .1) (b .pre .2) (i .before .word .ensures)
-          (i .if1 .left)
-          (t .in-turn .ensures) (k .answer-kind .ensures .0) (o .send .ensures .1),
+      held-read (a .w .now) (a .m) (a .p) (b .pre .1) (b .pre .2) (i .before .word .ensures)
+          (ne-eqb _ 1 (i .if1 .left)),
+      (
+        o .send .ensures .0,
+        hold-law (a .w .now) _ (a .m) (a .p) (b .pre .3) (b .pre .1) (b .pre .2) (i .before .word .ensures)
+            (i .if1 .left)
+            (t .in-turn .ensures) (k .answer-kind .ensures .0) (o .send .ensures .1),
+      ),
     )
 
 pub take-hold-spec : {M : Type 1} → statement M

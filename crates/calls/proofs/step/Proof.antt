@@ -38,7 +38,7 @@ held : (c : tie.After-enum-told) → SoundWords (c .before .before .before .befo
 held c = taken-sound-words (c .before .before .before .before .before .before .args .w .now) (taken c)
 
 step-requires : tie.Need-step-requires
-step-requires c κs = (held (c .before) .long, held (c .before) .reads)
+step-requires c κs = (held (c .before) .long, held (c .before) .reads, tt)
 
 same-length-2 : tie.Need-same-length-2
 same-length-2 c = search needs

@@ -25,7 +25,7 @@ arrive-requires c κs =
     let k = t .before .before in
     let b = k .before .before .before in
     let a = b .args in
-    can-arrive (a .w .now) (b .pre .0) (b .pre .1) (a .k) (a .m) (a .q) (a .p)
+    can-arrive (a .w .now) (b .pre .0) (b .pre .1) (a .k) (a .m) (a .q) (a .p) (a .quiescent) (b .pre .2)
     (taken-zero (sym (t .enum-told .given .1)) (k .of-arrival .ensures))
 
 same-length : tie.Need-same-length
@@ -51,7 +51,7 @@ returns-2 c =
     let k = t .before .before in
     let a = k .before .before .before .args in
     let e = taken-zero (sym (t .enum-told .given .1)) (k .of-arrival .ensures) in
-    (sym e, o .arrive .ensures ∙ words-taken (a .w .now) (arrives (a .k) (a .m) (a .q) (a .p)) e)
+    (sym e, o .arrive .ensures .1 ∙ words-taken (a .w .now) (arrives (a .k) (a .m) (a .q) (a .p)) e)
 
 pub arrival-spec : {M : Type 1} → statement M
 arrival-spec =

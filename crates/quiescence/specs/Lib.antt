@@ -1,0 +1,2 @@
+pub mod Quiescent
+pub mod Steps

@@ -1,0 +1,105 @@
+//! The cases: what each makes beforehand, with the second implementation, and the call that it is about.
+
+use crate::sides::Side;
+use reference::random::Random;
+use reference::record::{self, Record};
+use reference::sample::{self, RACE};
+use reference::world::World;
+use reference::{calls, journal};
+
+const WORDS: usize = 20_480;
+const LONGEST: usize = 8_064;
+/// Steps of a run taken by the public call, each of which tests the whole world.
+const PUBLIC: usize = 500;
+
+/// Runs the call of the case on a side; the number of its units. Nothing where no case has this name.
+pub fn run(case: &str, side: &Side, processes: usize, messages: usize) -> Option<usize> {
+    let setup = setup(processes);
+    let mut words = vec![0; WORDS];
+    let units = match case {
+        "sound-full" => sound(side, &full(&setup, messages)),
+        "sound-flying" => sound(side, &flying(&setup, messages)),
+        "sound-fresh" => sound(side, &flying(&setup, 0)),
+        "make" => {
+            (side.make)(&mut words, &setup);
+            1
+        }
+        "log" => (side.log)(&full(&setup, messages)),
+        "step" => public_steps(side, &setup),
+        "settle" => (side.settle)(&mut flying(&setup, messages)) as usize,
+        "count" => (side.count)(&run_journal(&setup)),
+        "replay" => (side.replay)(&mut words, &run_journal(&setup)) as usize + 1,
+        "count-full" => (side.count)(include_bytes!("../../../bench/full.journal")),
+        "replay-full" => (side.replay)(&mut words, include_bytes!("../../../bench/full.journal")) as usize + 1,
+        _ => return None,
+    };
+    Some(units)
+}
+
+/// Two processes to a group, and no more than 8 groups.
+fn setup(processes: usize) -> Record {
+    let groups: Vec<usize> = (0..processes).map(|p| p / 2).collect();
+    record::setup(&groups)
+}
+
+/// The world after messages to all groups, from each process in turn: every first letter in flight.
+fn flying(setup: &[u8], messages: usize) -> Vec<u16> {
+    let mut words = vec![0; WORDS];
+    calls::make(&mut words, setup).expect("a good setup");
+    let processes = usize::from(setup[1]);
+    let groups = ((1_u32 << ((processes + 1) / 2)) - 1) as u8;
+    for m in 0..messages {
+        calls::step(&mut words, &record::multicast(m % processes, groups)).expect("a multicast is taken");
+    }
+    words
+}
+
+/// The same, settled.
+fn full(setup: &[u8], messages: usize) -> Vec<u16> {
+    let mut words = flying(setup, messages);
+    calls::settle(&mut words, u32::MAX).expect("a sound world");
+    words
+}
+
+fn sound(side: &Side, words: &[u16]) -> usize {
+    (side.sound)(words);
+    words.len()
+}
+
+/// A long random run: a setup and steps, most of which the world takes.
+fn random_run(setup: &[u8]) -> Vec<Record> {
+    let mut random = Random::new(1, 1);
+    let mut world = World::fresh(setup).expect("a good setup");
+    let mut records = vec![];
+    while records.len() < LONGEST - 1 {
+        let step = sample::step(&mut random, &world, &RACE);
+        if step.len() == 8 {
+            let _ = world.step(&step);
+            let mut record = [0; 8];
+            record.copy_from_slice(&step);
+            records.push(record);
+        }
+    }
+    records
+}
+
+fn run_journal(setup: &[u8]) -> Vec<u8> {
+    let records = [setup.to_vec(), random_run(setup).concat()].concat();
+    let mut bytes = vec![0; journal::length(records.len()).expect("a good length")];
+    journal::write(&records, &mut bytes).expect("a good length");
+    bytes
+}
+
+/// Steps of that run by the public call, spread over all of it.
+fn public_steps(side: &Side, setup: &[u8]) -> usize {
+    let mut world = World::fresh(setup).expect("a good setup");
+    let mut taken = 0;
+    for (at, step) in random_run(setup).iter().enumerate() {
+        if at % (LONGEST / PUBLIC) == 0 {
+            (side.step)(&mut reference::words::encode(&world), step);
+            taken += 1;
+        }
+        let _ = world.step(step);
+    }
+    taken
+}

@@ -1,0 +1,89 @@
+//! The two sides: the archive and the second implementation, each call in a function of its own whose instructions can
+//! be counted (wt_.. in the archive, reference_.. here).
+
+use reference::{calls, journal, sound};
+
+extern "C" {
+    fn wt_bench_sound(words: *const u16, length: usize) -> u32;
+}
+
+/// The calls that the cases are about. Each is given what it takes, and must not be refused.
+pub struct Side {
+    pub sound: fn(&[u16]),
+    pub make: fn(&mut [u16], &[u8]),
+    pub log: fn(&[u16]) -> usize,
+    pub step: fn(&mut [u16], &[u8]),
+    pub settle: fn(&mut [u16]) -> u32,
+    pub count: fn(&[u8]) -> usize,
+    pub replay: fn(&mut [u16], &[u8]) -> u32,
+}
+
+pub const ARCHIVE: Side = Side {
+    sound: archive_sound,
+    make: |words, setup| engine::world::make(words, setup).expect("a good setup"),
+    log: |words| engine::world::log(words, 0, true).expect("a sound world").len(),
+    step: |words, step| {
+        let _ = engine::world::step(words, step);
+    },
+    settle: |words| engine::world::settle(words, u32::MAX).expect("a sound world").arrivals,
+    count: |bytes| engine::journal::count(bytes).expect("a good journal"),
+    replay: |words, bytes| engine::world::replay(words, bytes).expect("a good journal").steps,
+};
+
+pub const REFERENCE: Side = Side {
+    sound: reference_sound,
+    make: reference_make,
+    log: reference_log,
+    step: reference_step,
+    settle: reference_settle,
+    count: reference_count,
+    replay: reference_replay,
+};
+
+/// A pointer to live words with their length, which the archive only reads.
+fn archive_sound(words: &[u16]) {
+    let answer = unsafe { wt_bench_sound(words.as_ptr(), words.len()) };
+    assert_eq!(answer, 0, "the world is sound");
+}
+
+#[no_mangle]
+#[inline(never)]
+pub fn reference_sound(words: &[u16]) {
+    sound::read(words).expect("a sound world");
+}
+
+#[no_mangle]
+#[inline(never)]
+pub fn reference_make(words: &mut [u16], setup: &[u8]) {
+    calls::make(words, setup).expect("a good setup");
+}
+
+#[no_mangle]
+#[inline(never)]
+pub fn reference_log(words: &[u16]) -> usize {
+    calls::log(words, 0, true).expect("a sound world").len()
+}
+
+#[no_mangle]
+#[inline(never)]
+pub fn reference_step(words: &mut [u16], step: &[u8]) {
+    let _ = calls::step(words, step);
+}
+
+#[no_mangle]
+#[inline(never)]
+pub fn reference_settle(words: &mut [u16]) -> u32 {
+    calls::settle(words, u32::MAX).expect("a sound world").arrivals
+}
+
+#[no_mangle]
+#[inline(never)]
+pub fn reference_count(bytes: &[u8]) -> usize {
+    journal::count(bytes).expect("a good journal")
+}
+
+#[no_mangle]
+#[inline(never)]
+pub fn reference_replay(words: &mut [u16], bytes: &[u8]) -> u32 {
+    calls::replay(words, bytes).expect("a good journal").0
+}
