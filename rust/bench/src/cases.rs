@@ -30,7 +30,9 @@ pub fn run(case: &str, side: &Side, processes: usize, messages: usize) -> Option
         "count" => (side.count)(&run_journal(&setup)),
         "replay" => (side.replay)(&mut words, &run_journal(&setup)) as usize + 1,
         "count-full" => (side.count)(include_bytes!("../../../bench/full.journal")),
-        "replay-full" => (side.replay)(&mut words, include_bytes!("../../../bench/full.journal")) as usize + 1,
+        "replay-full" => {
+            (side.replay)(&mut words, include_bytes!("../../../bench/full.journal")) as usize + 1
+        }
         _ => return None,
     };
     Some(units)

@@ -1,5 +1,5 @@
 //! Runs the archive and the second implementation on the same random inputs and holds every answer and every
-//! lent byte of one against the other's.
+//! lent byte of one against the other's; and what the program `replay` prints, line for line.
 //!
 //! `compare [AREA] [COUNT] [SEED] [FIRST]`: COUNT inputs of each area or of the named one, from number FIRST on; an
 //! input of many parts counts for several. An input depends on the seed and its number alone, so that one that shows
@@ -10,6 +10,7 @@
 mod difference;
 mod journal;
 mod lent;
+mod program;
 mod tally;
 mod world;
 
@@ -32,7 +33,7 @@ struct Area {
     weight: u64,
 }
 
-const AREAS: [Area; 5] = [
+const AREAS: [Area; 6] = [
     Area { name: "journal", input: journal::input, answers: journal::ANSWERS, cover: &[], weight: 1 },
     Area { name: "world", input: world::input, answers: world::ANSWERS, cover: world::COVER, weight: 50 },
     Area {
@@ -44,6 +45,7 @@ const AREAS: [Area; 5] = [
     },
     Area { name: "settle", input: world::settles, answers: world::SETTLE_ANSWERS, cover: &[], weight: 100 },
     Area { name: "replay", input: world::replays, answers: world::REPLAY_ANSWERS, cover: &[], weight: 20 },
+    Area { name: "program", input: program::input, answers: program::ANSWERS, cover: &[], weight: 200 },
 ];
 
 const COUNT: u64 = 100_000;

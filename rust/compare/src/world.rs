@@ -128,14 +128,19 @@ pub fn settles(_: u64, random: &mut Random, tally: &mut Tally) -> Result<(), Dif
     calls::settle(&Lent::holding(random, &encode(&world)), budget, tally)
 }
 
-/// A journal to replay over any words.
-pub fn replays(index: u64, random: &mut Random, tally: &mut Tally) -> Result<(), Difference> {
-    let (kind, journal) = match index % 8 {
+/// A journal with its kind.
+pub fn journal(index: u64, random: &mut Random) -> (&'static str, Vec<u8>) {
+    match index % 8 {
         0 => ("replay, damaged journal", crate::journal::damaged(random)),
         1 => ("replay, damaged journal of steps", inputs::damaged_journal(random)),
         2 => ("replay, any setup", inputs::journal(random, true)),
         _ => ("replay, valid", inputs::journal(random, false)),
-    };
+    }
+}
+
+/// A journal to replay over any words.
+pub fn replays(index: u64, random: &mut Random, tally: &mut Tally) -> Result<(), Difference> {
+    let (kind, journal) = journal(index, random);
     tally.input(kind);
     let length = inputs::length(random, 32);
     let words = Lent::room(random, length);
