@@ -1,6 +1,6 @@
 -- What a taken step may lean on in a sound world, and the words after a step that is taken or refused.
 -- Assumes nothing.
-use mathlib.Core.Path.{_≡_, refl, sym, ap, _∙_}
+use mathlib.Core.Path.{_≡_, sym, ap, _∙_}
 use mathlib.Core.Bool.{Bool}
 use mathlib.Core.List.{List}
 use Prim.Native.Nat.{ℕ, _<_}
@@ -12,15 +12,16 @@ use Rattle.world.specs.World.{size, count, State, encode, view}
 use Rattle.world.specs.Layout.{encode-view}
 use Rattle.world.specs.Sound.{Sound}
 use Rattle.world.specs.SoundLaws.{size-high, count-high}
-use Rattle.world.specs.Steps.{Step, multicasts, arrives, loses, trusts, crashes, malformed, refusal, step, after}
+use Rattle.world.specs.Steps.{Step, multicasts, arrives, loses, trusts, crashes, refusal, step, after}
 use Rattle.world.specs.StepLaws.{accepted-multicast, accepted-arrival, accepted-loss, accepted-trust, accepted-crash}
 use Rattle.world.specs.Answers.{refusal-number, outcome-number}
 use Rattle.world.specs.declared.Refusal.{Refusal}
-use Rattle.world.specs.declared.Refusal.the-variants.{Malformed}
 use Rattle.world.specs.declared.Outcome.{Outcome}
 use Rattle.world.specs.declared.Outcome.the-variants.{Taken, Refused}
 use Rattle.quiescence.specs.Quiescent.{QuiescentIf, AllQuiescentIf, one-of-all}
 use Rattle.bounds.specs.Bounds.{Bounds, sound-bounds}
+use Rattle.given.specs.declared.Given.{Given}
+use Rattle.given.specs.Given.{step-of}
 use Rattle.refusals.specs.Refused.{refusal-some}
 use Rattle.multicasts.specs.Raise.{Low}
 use Rattle.multicasts.specs.Multicast.{sound-low}
@@ -85,12 +86,13 @@ module _ (w : List ℕ) (l : length w ≡ 20480) (h : Sound (view w)) where
   pub can-crash : (p : ℕ) → refusal s (crashes p) ≡ 0 → (length w ≡ 20480) × (p < 16)
   can-crash p e = (l, process p (accepted-crash s p (eq-eqb _ 0 e) .0))
 
--- ---- what is so of a step is so of the bytes that ask for it
-pub for-bytes : {n : ℕ} {u : List ℕ} {x y : Step} (s : State) → x ≡ y
-    → (n ≡ refusal s x) × (u ≡ encode (after s x)) → (n ≡ refusal s y) × (u ≡ encode (after s y))
-for-bytes s e h = (h .0 ∙ ap (refusal s) e, h .1 ∙ ap (λ (z : Step). encode (after s z)) e)
+-- ---- what is so of a kind of step is so of the step that has this kind
+pub judged : {n : ℕ} {x y : Given} (s : State) → x ≡ y → n ≡ refusal s (step-of y) → n ≡ refusal s (step-of x)
+judged s e h = h ∙ ap (λ (z : Given). refusal s (step-of z)) (sym e)
 
-pub refused-bytes : {x : Step} (w : List ℕ) → length w ≡ 20480 → malformed ≡ x
-    → (4 ≡ refusal (view w) x) × (w ≡ encode (after (view w) x))
-unfolding refusal
-refused-bytes w l e = for-bytes (view w) e (refl, words-refused w malformed Malformed l refl)
+pub taken-as : {x y : Given} (s : State) → x ≡ y → refusal s (step-of x) ≡ 0 → refusal s (step-of y) ≡ 0
+taken-as s e h = ap (λ (z : Given). refusal s (step-of z)) (sym e) ∙ h
+
+pub acted : {u : List ℕ} {x y : Given} (s : State) → x ≡ y → u ≡ encode (step s (step-of y))
+    → u ≡ encode (step s (step-of x))
+acted s e h = h ∙ ap (λ (z : Given). encode (step s (step-of z))) (sym e)

@@ -8,82 +8,40 @@ ghost use mathlib.Core.Path.{_≡_};
 ghost use lib.ListN.{length};
 ghost use Rattle.world.specs.World.{view, encode};
 ghost use Rattle.world.specs.Sound.{Sound};
-ghost use Rattle.world.specs.Steps.{multicasts, arrives, loses, trusts, crashes, read, refusal, after};
+ghost use Rattle.world.specs.Steps.{read, refusal, step as take, after};
 ghost use Rattle.world.specs.Answers.{outcome-number};
+ghost use Rattle.given.specs.Given.{step-of};
 ghost use Rattle.quiescence.specs.Quiescent.{AllQuiescentIf};
 
-// A multicast by p to the groups of a mask.
-fn multicast(w: &mut [u16], p: usize, groups: u16) -> Outcome
+// The refusal of a step, lowest number first, or that it is taken.
+fn judge(w: &[u16], x: Given) -> Outcome
     requires { ⌜ (length (now w) ≡ 20480) × Sound (view (now w)) ⌝ }
-    ensures answer { λ r. ⌜ outcome-number r ≡ refusal (view (now (w .entry))) (multicasts p groups) ⌝ }
-    ensures words { λ _. ⌜ now (w .exit) ≡ encode (after (view (now (w .entry))) (multicasts p groups)) ⌝ }
+    ensures { λ r. ⌜ outcome-number r ≡ refusal (view (now (w .entry))) (step-of x) ⌝ }
 {
-    match refusals::of_multicast(w, p, groups) {
-        Outcome::Refused(r) => Outcome::Refused(r),
-        Outcome::Taken => {
-            multicasts::send_new(w, p, groups);
-            Outcome::Taken
-        }
+    match x {
+        Given::Multicast(p, groups) => refusals::of_multicast(w, p, groups),
+        Given::Arrival(k, m, q, p) => refusals::of_arrival(w, k, m, q, p),
+        Given::Loss(k, m, q, p) => refusals::of_loss(w, k, m, q, p),
+        Given::Trust(p, set) => refusals::of_trust(w, p, set),
+        Given::Crash(p) => refusals::of_crash(w, p),
+        Given::Malformed => Outcome::Refused(Refusal::Malformed),
     }
 }
 
-// The arrival of the letter of kind k for message m from q at p.
-fn arrival(w: &mut [u16], k: usize, m: usize, q: usize, p: usize, quiescent: bool) -> Outcome
-    requires { ⌜ (length (now w) ≡ 20480) × Sound (view (now w)) × AllQuiescentIf quiescent (view (now w)) ⌝ }
-    ensures answer { λ r. ⌜ outcome-number r ≡ refusal (view (now (w .entry))) (arrives k m q p) ⌝ }
-    ensures words { λ _. ⌜ now (w .exit) ≡ encode (after (view (now (w .entry))) (arrives k m q p)) ⌝ }
+// What a step does that is taken.
+fn act(w: &mut [u16], x: Given, quiescent: bool)
+    requires { ⌜ (length (now w) ≡ 20480) × Sound (view (now w)) × AllQuiescentIf quiescent (view (now w)) × (refusal (view (now w)) (step-of x) ≡ 0) ⌝ }
+    ensures { λ _. ⌜ now (w .exit) ≡ encode (take (view (now (w .entry))) (step-of x)) ⌝ }
 {
-    match refusals::of_arrival(w, k, m, q, p) {
-        Outcome::Refused(r) => Outcome::Refused(r),
-        Outcome::Taken => {
+    match x {
+        Given::Multicast(p, groups) => multicasts::send_new(w, p, groups),
+        Given::Arrival(k, m, q, p) => {
             arrivals::arrive(w, k, m, q, p, quiescent);
-            Outcome::Taken
         }
-    }
-}
-
-// The loss of that letter.
-fn loss(w: &mut [u16], k: usize, m: usize, q: usize, p: usize) -> Outcome
-    requires { ⌜ (length (now w) ≡ 20480) × Sound (view (now w)) ⌝ }
-    ensures answer { λ r. ⌜ outcome-number r ≡ refusal (view (now (w .entry))) (loses k m q p) ⌝ }
-    ensures words { λ _. ⌜ now (w .exit) ≡ encode (after (view (now (w .entry))) (loses k m q p)) ⌝ }
-{
-    match refusals::of_loss(w, k, m, q, p) {
-        Outcome::Refused(r) => Outcome::Refused(r),
-        Outcome::Taken => {
-            short_steps::lose(w, k, m, q, p);
-            Outcome::Taken
-        }
-    }
-}
-
-// Another trust set of p.
-fn trust(w: &mut [u16], p: usize, set: u16) -> Outcome
-    requires { ⌜ (length (now w) ≡ 20480) × Sound (view (now w)) ⌝ }
-    ensures answer { λ r. ⌜ outcome-number r ≡ refusal (view (now (w .entry))) (trusts p set) ⌝ }
-    ensures words { λ _. ⌜ now (w .exit) ≡ encode (after (view (now (w .entry))) (trusts p set)) ⌝ }
-{
-    match refusals::of_trust(w, p, set) {
-        Outcome::Refused(r) => Outcome::Refused(r),
-        Outcome::Taken => {
-            short_steps::replace_trust(w, p, set);
-            Outcome::Taken
-        }
-    }
-}
-
-// The crash of p.
-fn crash(w: &mut [u16], p: usize) -> Outcome
-    requires { ⌜ (length (now w) ≡ 20480) × Sound (view (now w)) ⌝ }
-    ensures answer { λ r. ⌜ outcome-number r ≡ refusal (view (now (w .entry))) (crashes p) ⌝ }
-    ensures words { λ _. ⌜ now (w .exit) ≡ encode (after (view (now (w .entry))) (crashes p)) ⌝ }
-{
-    match refusals::of_crash(w, p) {
-        Outcome::Refused(r) => Outcome::Refused(r),
-        Outcome::Taken => {
-            short_steps::take_down(w, p);
-            Outcome::Taken
-        }
+        Given::Loss(k, m, q, p) => short_steps::lose(w, k, m, q, p),
+        Given::Trust(p, set) => short_steps::replace_trust(w, p, set),
+        Given::Crash(p) => short_steps::take_down(w, p),
+        Given::Malformed => {}
     }
 }
 
@@ -93,12 +51,12 @@ pub fn step(w: &mut [u16], bytes: &[u8], quiescent: bool) -> Outcome
     ensures answer { λ r. ⌜ outcome-number r ≡ refusal (view (now (w .entry))) (read (now (bytes .entry))) ⌝ }
     ensures words { λ _. ⌜ now (w .exit) ≡ encode (after (view (now (w .entry))) (read (now (bytes .entry)))) ⌝ }
 {
-    match given::take(bytes) {
-        Given::Multicast(p, groups) => multicast(w, p, groups),
-        Given::Arrival(k, m, q, p) => arrival(w, k, m, q, p, quiescent),
-        Given::Loss(k, m, q, p) => loss(w, k, m, q, p),
-        Given::Trust(p, set) => trust(w, p, set),
-        Given::Crash(p) => crash(w, p),
-        Given::Malformed => Outcome::Refused(Refusal::Malformed),
+    let x = given::take(bytes);
+    match judge(w, x) {
+        Outcome::Refused(r) => Outcome::Refused(r),
+        Outcome::Taken => {
+            act(w, x, quiescent);
+            Outcome::Taken
+        }
     }
 }
