@@ -12,21 +12,22 @@ use native.Mathlib.Omega.{arith}
 use native.Mathlib.Decide.{ℕ-discrete}
 use lib.Dec.{eqb}
 use borrow.Author.Tests.{eqb-true, eq-eqb}
-use Rattle.base.specs.Tests.{bool-cases, clash, strong, pick-yes, both, both-i, eqb-refl}
+use Rattle.base.specs.Tests.{pick, bool-cases, clash, strong, pick-yes, both, both-i, eqb-refl}
 use Rattle.base.specs.Count.{tally, tally-cong, in-at}
 use Rattle.base.specs.Bits.{bit}
-use Rattle.world.specs.World.{size, count, group, up, next, sender, mask, stamp, number, flight, State}
+use Rattle.world.specs.World.{size, count, group, up, next, marks, sender, mask, stamp, number, flight, State}
 use Rattle.world.specs.SoundLaws.{next-is}
 use Rattle.world.specs.Machine.{addressed}
 use Rattle.world.specs.Steps.{is-up}
 use Rattle.world.specs.History.{Run, Fair}
-use Rattle.effects.specs.Views.{Messages, messages}
+use Rattle.effects.specs.Views.{Messages, messages, place}
 use Rattle.order.specs.Knowledge.{Knowledge, knowledge}
 use Rattle.order.specs.Counters.{To, of-to, of, to, Counting, sender-before, stamp-lt}
 use Rattle.order.specs.Runs.{Whole}
-use Rattle.order.specs.Order.{Fifo}
+use Rattle.order.specs.Cascade.{Fifo}
 use Rattle.effects.specs.Cascade.{Near}
-use Rattle.agreement.specs.Letters.{Held, Mark, Fly, Down, Told, is-done, from-down, to-down, flies}
+use Rattle.effects.specs.Arrival.{Held, Fly}
+use Rattle.agreement.specs.Letters.{Mark, Down, Told, is-done, from-down, to-down, flies}
 use Rattle.agreement.specs.Turns.{Vouched, vouched, Pending, delivered, not-in-turn, unmarked, Live}
 
 -- ---- the number of a message: one more than its sender's earlier ones to that group
@@ -58,7 +59,7 @@ number-is {n} {w} {k} c m g h t =
   where
     above : (i : ℕ) → suc m ≤ i → (k .before m i ≡ true) ⊎ (k .before m i ≡ false)
         → both (k .before m i) (of-to w (w .sender m) g i) ≡ false
-    above i a (inl e) = absurd (omega (arith, c .closed .before-le m i e))
+    above i a (inl e) = absurd (omega (arith, c .closed .before m .low i e))
     above i a (inr e) = rw e
 
     mine : (x : ℕ) → x < m → (b : Bool) → of-to w (w .sender m) g x ≡ b → both (k .before m x) b ≡ b
@@ -70,21 +71,18 @@ number-is {n} {w} {k} c m g h t =
         go true = refl
         go false = refl
 
--- the last below n that passes, with the count below it
-data LastCount (n : ℕ) (f : ℕ → Bool) : Type 0 where
-  no-last : tally n f ≡ 0 → LastCount n f
-  last : (x : ℕ) → x < n → f x ≡ true → tally n f ≡ suc (tally x f) → LastCount n f
-
--- there is one, or none passes
-last-count : (n : ℕ) (f : ℕ → Bool) → LastCount n f
+-- if the number of each that passes is below c, so is the count of them
+count-up : (f : ℕ → Bool) (c m : ℕ) → 1 ≤ c → ((y : ℕ) → y < m → f y ≡ true → suc (tally y f) < c)
+    → suc (tally m f) ≤ c
 unfolding tally
-last-count zero f = no-last refl
-last-count (suc n) f = go (f n) refl (last-count n f)
+count-up f c zero l h = l
+count-up f c (suc m) l h =
+    go (f m) refl (λ z. h m (omega arith) z) (count-up f c m l (λ y a. h y (omega arith)))
   where
-    go : (b : Bool) → f n ≡ b → LastCount n f → LastCount (suc n) f
-    go true e r = last n (omega arith) e (rw e)
-    go false e (no-last z) = no-last (rw e z)
-    go false e (last x l p z) = last x (omega arith) p (rw e z)
+    go : (b : Bool) → f m ≡ b → (f m ≡ true → suc (tally m f) < c) → suc (tally m f) ≤ c
+        → suc (pick b (suc (tally m f)) (tally m f)) ≤ c
+    go true e step ih = step e
+    go false e step ih = ih
 
 -- ---- no letter flies between two up processes
 abbrev pub Calm : State → Type 0
@@ -142,7 +140,13 @@ module _ {r : Run State} (w : Whole r) (v : Live (is-up (r .now)) (r .now)) (cal
       → addressed (r .now) y u ≡ true → Fifo (r .now) u y) where
     -- then m is in turn at each, or past it
     near : (u : ℕ) → Up (r .now) u → addressed (r .now) m u ≡ true → Near (r .now) m u
-    near u uu a = go (last-count m (of-to (messages (r .now)) q g))
+    near u uu a =
+        omega (
+          arith,
+          number-is c m g hm a,
+          count-up (of-to (messages (r .now)) q g) (r .now (next u q)) m
+              (omega (arith, next-is (r .now) (w .sound) u q (uu .0) (c .senders m hm))) earlier,
+        )
       where
         q : ℕ
         q = r .now (sender m)
@@ -153,30 +157,24 @@ module _ {r : Run State} (w : Whole r) (v : Live (is-up (r .now)) (r .now)) (cal
         c : Counting (r .now size) (messages (r .now)) (knowledge (r .seen))
         c = w .meaning .counting
 
-        at-m : r .now (number m (r .now (group u)))
-            ≡ suc (tally m (of-to (messages (r .now)) (r .now (sender m)) (r .now (group u))))
-        at-m = number-is c m g hm a
-
         below : (y : ℕ) → Fifo (r .now) u y
             → r .now (stamp y (r .now (group u)) (r .now (sender y))) < r .now (next u (r .now (sender y)))
         below y (in-at i h e) =
             subst
             (λ (z : ℕ). r .now (stamp z (r .now (group u)) (r .now (sender z)))
             < r .now (next u (r .now (sender z)))) e
-            (omega (arith, w .meaning .fifos u .prefix .in-below i h))
+            (omega (arith, w .meaning .each u .fifo-log .prefix .in-below i h))
 
-        go : LastCount m (of-to (messages (r .now)) (r .now (sender m)) (r .now (group u)))
-            → Near (r .now) m u
-        go (no-last z) = omega (arith, at-m, next-is (r .now) (w .sound) u q (uu .0) (c .senders m hm))
-        go (last y ly d z) =
+        earlier : (y : ℕ) → y < m → of-to (messages (r .now)) (r .now (sender m)) (r .now (group u)) y ≡ true
+            → suc (tally y (of-to (messages (r .now)) (r .now (sender m)) (r .now (group u))))
+            < r .now (next u (r .now (sender m)))
+        earlier y ly d =
             let sy = of (messages (r .now)) q g y d in
             let ty = to (messages (r .now)) q g y d in
             let hy : y < r .now count = omega arith in
-            let py = below y (prior y u ly sy uu a ty) in
             omega (
               arith,
-              at-m,
-              py,
+              below y (prior y u ly sy uu a ty),
               number-is c y g hy ty,
               c .numbers y g hy,
               ap (λ (x : ℕ). r .now (next u x)) sy,
@@ -192,10 +190,10 @@ module _ {r : Run State} (w : Whole r) (v : Live (is-up (r .now)) (r .now)) (cal
             heard 2 m q u (omega arith) hm uq uu
             (v .net .okayed m q u hm (uq .0) (uu .0) (all q uq b) (near q uq b) a)
 
-        go : Pending (r .now) u m → Fifo (r .now) u m
+        go : Pending (place (r .now) u) m → Fifo (r .now) u m
         go (delivered f) = f
         go (not-in-turn d) =
-            w .meaning .fifos u .prefix .below-in m hm a
+            w .meaning .each u .fifo-log .prefix .below-in m hm a
             (omega (arith, near u uu a, w .meaning .counting .numbers m (r .now (group u)) hm))
         go (unmarked q hq t b d) = clash (marked q (hq, fair u q (uu .0) hq (uu .1) t) b) d
 
@@ -218,24 +216,27 @@ module _ {r : Run State} (w : Whole r) (v : Live (is-up (r .now)) (r .now)) (cal
           (λ y u ly e uu a d. earlier y u ly e uu a d (vouch u uu a))
         where
           hm : m < r .now count
-          hm = elim f [ in-at i h e ↦ subst (λ (z : ℕ). z < r .now count) e (w .meaning .fifos p .old i h) ]
+          hm = elim f [ in-at i h e ↦ subst (λ (z : ℕ). z < r .now count) e (w .meaning .each p .fifo-log .old i h) ]
 
           vouch : (u : ℕ) → Up (r .now) u → addressed (r .now) m u ≡ true
-              → Vouched (is-up (r .now)) (r .now) p m u
+              → Vouched (is-up (r .now)) (r .now size) (λ x. r .now (group x)) (r .now (marks p m)) u
           vouch u uu a = v .trusted p m u f (uu .0) (eq-eqb (r .now (up u)) 1 (uu .1)) a
 
           marked-by : (x : ℕ) → x < r .now size → Mark (r .now) p m x → Held (r .now) x m × Near (r .now) m x
           marked-by x hx z = v .net .ok-marked m x p hm hx hp z
 
           holder : (u : ℕ) → Up (r .now) u → addressed (r .now) m u ≡ true
-              → Vouched (is-up (r .now)) (r .now) p m u → Held (r .now) u m
+              → Vouched (is-up (r .now)) (r .now size) (λ x. r .now (group x)) (r .now (marks p m)) u
+              → Held (r .now) u m
           holder u uu a (vouched x hx lx gx mx) =
               let ux : Up (r .now) x = (hx, eqb-true (r .now (up x)) 1 lx) in
               spread m x u hm ux (marked-by x hx mx .0) uu a
 
           earlier : (y u : ℕ) → y < m → r .now (sender y) ≡ r .now (sender m) → Up (r .now) u
               → addressed (r .now) m u ≡ true
-              → addressed (r .now) y u ≡ true → Vouched (is-up (r .now)) (r .now) p m u → Fifo (r .now) u y
+              → addressed (r .now) y u ≡ true
+              → Vouched (is-up (r .now)) (r .now size) (λ x. r .now (group x)) (r .now (marks p m)) u
+              → Fifo (r .now) u y
           earlier y u ly e uu a d (vouched x hx lx gx mx) =
               let c = w .meaning .counting in
               let g : ℕ = r .now (group x) in
@@ -244,7 +245,7 @@ module _ {r : Run State} (w : Whole r) (v : Live (is-up (r .now)) (r .now)) (cal
               subst (λ (z : ℕ). bit (r .now (mask m)) z ≡ true) (sym gx) a in
               let ay : addressed (r .now) y x ≡ true =
               subst (λ (z : ℕ). bit (r .now (mask y)) z ≡ true) (sym gx) d in
-              let fy = w .meaning .fifos x .prefix .below-in y hy ay
+              let fy = w .meaning .each x .fifo-log .prefix .below-in y hy ay
               (omega (
                 arith,
                 stamp-lt c m y g hm ly e am,

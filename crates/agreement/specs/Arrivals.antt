@@ -8,9 +8,8 @@ use mathlib.Core.List.{List}
 use mathlib.Core.Logic.{_⊎_, inl, inr, _≢_}
 use Prim.Native.Nat.{ℕ, _+_, _≤_, _<_}
 use native.Mathlib.Omega.{arith}
-use native.Mathlib.Decide.{ℕ-discrete}
 use lib.Dec.{eqb}
-use borrow.Author.Tests.{eqb-true, eqb-false, ltb-true}
+use borrow.Author.Tests.{eqb-false, ltb-true}
 use Rattle.base.specs.Tests.{pick}
 use Rattle.base.specs.Count.{In, in-at}
 use Rattle.base.specs.Bits.{bit, with, with-old, with-hit, with-cases, bit-mask-of}
@@ -23,15 +22,16 @@ use Rattle.world.specs.Machine.{posted as post}
 use Rattle.world.specs.StepLaws.{InFlight}
 use Rattle.world.specs.History.{Event}
 use Rattle.effects.specs.Views.{messages, Process, process, Ground, ground}
-use Rattle.effects.specs.Arrival.{mark-cases, hold-cases, holding, arrived, mark-process, mark-ground, leave-less, leave-flown, marked-held, marked-flight}
+use Rattle.effects.specs.Arrival.{Held, Fly, mark-cases, hold-cases, holding, arrived, mark-process, mark-ground, leave-flown, marked-held, marked-flight}
 use Rattle.effects.specs.Holding.{sound-letter}
+use Rattle.effects.specs.Spent.{Once, once-then, leave-once, mark-once, hold-once, multicast-once, marked-low}
 use Rattle.order.specs.Knowledge.{knowledge}
-use Rattle.order.specs.Counters.{OneMore}
+use Rattle.order.specs.Counters.{OneMore, old-or-new}
 use Rattle.order.specs.Logs.{FifoLogOf}
 use Rattle.order.specs.Cascade.{MeaningOf}
-use Rattle.order.specs.Runs.{one-more}
+use Rattle.order.specs.Multicast.{one-more}
 use Rattle.effects.specs.Cascade.{Near}
-use Rattle.agreement.specs.Letters.{Held, Mark, Fly, Down, Told, is-done, from-down, to-down, flies, Net, still, landed, lost-from, lost-to, ToAll, Progress, net-progress}
+use Rattle.agreement.specs.Letters.{Mark, Down, Told, is-done, from-down, to-down, flies, Net, still, landed, lost-from, lost-to, ToAll, Progress, net-progress}
 
 -- ---- marks when a letter arrives
 module _ (s : State) (k m q p : ℕ) where
@@ -87,19 +87,17 @@ module _ (s : State) (k m q p : ℕ) (l : InFlight s k m q p) (sound : Sound s)
     pub ground-is : ground t ≡ ground s
     pub own-is : (r : ℕ) → process t r ≡ process s r
     pub marks-is : (r x : ℕ) → t (marks r x) ≡ mark (leave s k m q p) k m q p (marks r x)
-    pub held-on : (r x : ℕ) → Held s r x → Held t r x
     pub held-back : (r x : ℕ) → Held t r x → Held s r x ⊎ ((p ≡ r) × (m ≡ x) × (s (held p m) ≢ 1))
     pub holds : Held t p m
     pub fly-on : (x j o u : ℕ) → u < s size → addressed s x u ≡ true → Fly (leave s k m q p) x j o u
         → Fly t x j o u
-    pub ok-back : (x o u : ℕ) → Fly t x 2 o u → Fly s x 2 o u ⊎ ((m ≡ x) × (p ≡ o) × Near s m p)
     pub answer : s (held p m) ≢ 1 → (u : ℕ) → u < s size → addressed s m u ≡ true
         → Fly t m 1 p u ⊎ Fly t m 2 p u
     pub ok-answer : s (held p m) ≢ 1 → Near s m p → (u : ℕ) → u < s size → addressed s m u ≡ true
         → Fly t m 2 p u
 
   -- by the views
-  module _ (t : State) (a : After t) where
+  module _ (t : State) (a : After t) (once : Once s t) where
     near-same : (x r : ℕ) → Near t x r ≡ Near s x r
     near-same x r =
         ap₂ (λ (g : Ground) (o : Process). g .messages .number x (g .group r) ≤ o .next (g .messages .sender x))
@@ -114,9 +112,6 @@ module _ (s : State) (k m q p : ℕ) (l : InFlight s k m q p) (sound : Sound s)
     count-same : t count ≡ s count
     count-same = ap (λ (g : Ground). g .messages .total) (a .ground-is)
 
-    to-near : (x r : ℕ) → Near s x r → Near t x r
-    to-near x r y = subst (λ (T : Type 0). T) (sym (near-same x r)) y
-
     un-near : (x r : ℕ) → Near t x r → Near s x r
     un-near x r y = subst (λ (T : Type 0). T) (near-same x r) y
 
@@ -125,11 +120,10 @@ module _ (s : State) (k m q p : ℕ) (l : InFlight s k m q p) (sound : Sound s)
       same-size = size-same;
       same-to = λ x r _. to-same x r;
       same-sender = λ x _. ap (λ (g : Ground). g .messages .sender x) (a .ground-is);
-      held-on = λ x r _. a .held-on r x;
+      once = once;
       mark-on =
           λ x r u _ _ z. subst (λ (v : ℕ). bit v r ≡ true) (sym (a .marks-is u x))
           (marked-on s k m q p u x r z);
-      near-on = λ x r _. to-near x r;
       down-on = λ r d e. d (sym (ap (λ (g : Ground). g .up r) (a .ground-is)) ∙ e);
       flown = λ x j r u hx hr hu au z. elim (leave-flown s k m q p x j r u z) [
         | inr w ↦ still (a .fly-on x j r u hu au w)
@@ -137,11 +131,7 @@ module _ (s : State) (k m q p : ℕ) (l : InFlight s k m q p) (sound : Sound s)
             (λ two. subst (λ (v : ℕ). bit v r ≡ true) (sym (a .marks-is u x))
             (hit x r u (e .0) (e .2) (e .3) (e .1 ∙ two)))
       ];
-      new-ok = λ x r u hx hr hu z. elim (a .ok-back x r u z) [
-        | inl w ↦ inl (omega (arith, count-same), w)
-        | inr w ↦ inr
-            (subst₂ (λ (v y : ℕ). Held t y v × Near t v y) (w .0) (w .1) (a .holds, to-near m p (w .2)))
-      ];
+      old-ok = λ x r u hx _ _ _. omega (arith, count-same);
       new-mark =
           λ x r u hx hr hu z.
           elim (marked-back s k m q p u x r (subst (λ (v : ℕ). bit v r ≡ true) (a .marks-is u x) z)) [
@@ -195,14 +185,9 @@ module _ (s : State) (k m q p : ℕ) (l : InFlight s k m q p) (sound : Sound s)
     ground-is = mark-ground s k m q p;
     own-is = mark-process s k m q p;
     marks-is = λ r x. refl;
-    held-on = λ r x e. marked-held s k m q p r x ∙ e;
     held-back = λ r x e. inl (sym (marked-held s k m q p r x) ∙ e);
     holds = marked-held s k m q p p m ∙ h;
     fly-on = λ x j o u _ _ z. subst (λ (v : ℕ). bit v u ≡ true) (sym (marked-flight s k m q p x j o)) z;
-    ok-back =
-        λ x o u z. inl
-        (leave-less s k m q p x 2 o u
-        (subst (λ (v : ℕ). bit v u ≡ true) (marked-flight s k m q p x 2 o) z));
     answer = λ d. absurd (d h);
     ok-answer = λ d. absurd (d h);
   }
@@ -227,19 +212,8 @@ module _ (s : State) (k m q p : ℕ) (l : InFlight s k m q p) (sound : Sound s)
         subst (λ (i : ℕ). Fly t₂ m i p u) e
         (subst (λ (v : ℕ). bit v u ≡ true)
         (sym
-        (put-same (put t₁ (held p m) 1) (flight m (pick b 2 1) p) (flight m (pick b 2 1) p)
-        (addressees t₁ m) refl))
+        (put-same _ (flight m (pick b 2 1) p) (flight m (pick b 2 1) p) (addressees t₁ m) refl))
         (to-all u hu au))
-
-    kind-two : _≡_ {A = ℕ} (pick b 2 1) 2 → b ≡ true
-    kind-two = go b
-      where
-        go : (c : Bool) → _≡_ {A = ℕ} (pick c 2 1) 2 → c ≡ true
-        go true e = refl
-        go false e = absurd (omega arith)
-
-    turn : b ≡ true → s (number m (s (group p))) ≡ s (next p (s (sender m)))
-    turn e = eqb-true (s (number m (s (group p)))) (s (next p (s (sender m)))) (eb ∙ e)
 
     -- were its number below next, m would be in the FIFO log, and held
     near-turn : Near s m p → b ≡ true
@@ -260,9 +234,6 @@ module _ (s : State) (k m q p : ℕ) (l : InFlight s k m q p) (sound : Sound s)
       ground-is = mark-ground s k m q p;
       own-is = mark-process s k m q p;
       marks-is = λ r x. refl;
-      held-on =
-          λ r x e. put-at t₁ (held p m) (held r x) 1 (λ v. v ≡ 1) (λ _. refl)
-          (λ _. marked-held s k m q p r x ∙ e);
       held-back =
           λ r x. put-at t₁ (held p m) (held r x) 1
           (λ v. v ≡ 1 → Held s r x ⊎ ((p ≡ r) × (m ≡ x) × (s (held p m) ≢ 1)))
@@ -273,12 +244,6 @@ module _ (s : State) (k m q p : ℕ) (l : InFlight s k m q p) (sound : Sound s)
           (λ v. bit v u ≡ true)
           (λ c. let e : m ≡ x = cc in to-all u hu (subst (λ (v : ℕ). addressed s v u ≡ true) (sym e) au))
           (λ _. subst (λ (v : ℕ). bit v u ≡ true) (sym (marked-flight s k m q p x j o)) z);
-      ok-back = λ x o u. put-at t₁ (flight m (pick b 2 1) p) (flight x 2 o) (addressees t₁ m)
-          (λ v. bit v u ≡ true → Fly s x 2 o u ⊎ ((m ≡ x) × (p ≡ o) × Near s m p))
-          (λ c _. let e : _≡_ {A = ℕ} (pick b 2 1) 2 = cc in inr (cc, cc, omega (arith, turn (kind-two e))))
-          (λ _ z. inl
-          (leave-less s k m q p x 2 o u
-          (subst (λ (v : ℕ). bit v u ≡ true) (marked-flight s k m q p x 2 o) z)));
       answer = λ _ u hu au. either-kind b refl u hu au;
       ok-answer = λ _ y u hu au. answered 2 u (ap (λ (c : Bool). pick c 2 1) (near-turn y)) hu au;
     }
@@ -291,17 +256,14 @@ module _ (s : State) (k m q p : ℕ) (l : InFlight s k m q p) (sound : Sound s)
   -- an arrival before its cascade keeps what letters tell
   pub arrived-net : Net (arrived s k m q p)
   arrived-net =
-      hold-cases Net (mark (leave s k m q p) k m q p) p m
-      (λ e. net-progress s (mark (leave s k m q p) k m q p)
-      (arrived-progress (mark (leave s k m q p) k m q p) (after-old (sym (marked-held s k m q p p m) ∙ e))) n)
-      (λ e. net-progress s
-      (holding (mark (leave s k m q p) k m q p) p m
-      (pick (in-turn (mark (leave s k m q p) k m q p) p m) 2 1))
-      (arrived-progress
-      (holding (mark (leave s k m q p) k m q p) p m
-      (pick (in-turn (mark (leave s k m q p) k m q p) p m) 2 1))
-      (after-new (λ d. e (marked-held s k m q p p m ∙ d)) (in-turn (mark (leave s k m q p) k m q p) p m)
-      turn-same)) n)
+      net-progress s (arrived s k m q p)
+      (arrived-progress (arrived s k m q p)
+      (hold-cases After (mark (leave s k m q p) k m q p) p m
+      (λ e. after-old (sym (marked-held s k m q p p m) ∙ e))
+      (λ e. after-new (λ d. e (marked-held s k m q p p m ∙ d)) (in-turn (mark (leave s k m q p) k m q p) p m)
+      turn-same))
+      (once-then (leave-once s k m q p) (once-then (mark-once (leave s k m q p) k m q p)
+      (hold-once (mark (leave s k m q p) k m q p) p m (marked-low s k m q p hm))))) n
     where
       turn-same : in-turn s p m ≡ in-turn (mark (leave s k m q p) k m q p) p m
       turn-same =
@@ -317,9 +279,8 @@ lost-net s k m q p sound d n = net-progress s (leave s k m q p) (record {
   same-size = refl;
   same-to = λ x r _. refl;
   same-sender = λ x _. refl;
-  held-on = λ x r _ h. h;
+  once = leave-once s k m q p;
   mark-on = λ x r u _ _ z. z;
-  near-on = λ x r _ y. y;
   down-on = λ r e. e;
   flown = λ x j r u hx hr hu au z. elim (leave-flown s k m q p x j r u z) [
     | inr w ↦ still w
@@ -328,7 +289,7 @@ lost-net s k m q p sound d n = net-progress s (leave s k m q p) (record {
       | inr a ↦ lost-to (subst (Down s) (e .3) a)
     ]
   ];
-  new-ok = λ x r u hx hr hu z. inl (hx, leave-less s k m q p x 2 r u z);
+  old-ok = λ x r u hx _ _ _. hx;
   new-mark = λ x r u hx hr hu z. inl (hx, z);
   new-holder = λ x r hx hr h. inl (hx, h);
   new-near = λ x r hx hr h y. inl (hx, h, y);
@@ -386,14 +347,6 @@ module _ (s : State) (es : List Event) (p groups : ℕ) (o : MeaningOf s es) (so
       (λ v. bit v u ≡ true)
       (λ c. let e : s count ≡ x = cc in absurd (omega arith)) (λ _. z)
 
-  -- an OK is no first letter
-  sent-ok : (x r u : ℕ) → Fly (multicast s p groups) x 2 r u → Fly s x 2 r u
-  unfolding multicast post numbered stamped raised put with-tables
-  sent-ok x r u =
-      put-at s (flight (s count) 0 p) (flight x 2 r) (addressees (multicast s p groups) (s count))
-      (λ v. bit v u ≡ true → Fly s x 2 r u)
-      (λ c. let e : _≡_ {A = ℕ} 0 2 = cc in absurd (omega arith)) (λ _ z. z)
-
   -- the first letters fly to all addressees
   first-letters : (u : ℕ) → u < s size → addressed (multicast s p groups) (s count) u ≡ true
       → Fly (multicast s p groups) (s count) 0 p u
@@ -412,22 +365,26 @@ module _ (s : State) (es : List Event) (p groups : ℕ) (o : MeaningOf s es) (so
     same-size = refl;
     same-to = λ x r h. ap (λ (v : ℕ). bit v (s (group r))) (w .old-mask x h);
     same-sender = w .old-sender;
-    held-on = λ x r _ h. h;
+    once = multicast-once s p groups;
     mark-on = λ x r u _ _ z. z;
-    near-on = λ x r h y. subst (λ (T : Type 0). T) (sym (near-is x r h)) y;
     down-on = λ r e. e;
     flown = λ x j r u hx hr hu au z. still (sent-old x j r u hx z);
-    new-ok = λ x r u hx hr hu z.
-        let y = sent-ok x r u z in
-        let f = letter-facts s sound 2 x r u (omega arith) (omega arith) (low r hr) (low u hu) y in
-        inl (ltb-true x (s count) (f .of), y);
+    old-ok = λ x r u hx hr hu y.
+        ltb-true x (s count)
+        (letter-facts s sound 2 x r u (omega arith) (omega arith) (low r hr) (low u hu) y .of);
     new-mark = λ x r u hx hr hu z.
         inl (ltb-true x (s count) (mark-facts s sound u x r (low u hu) (omega arith) (low r hr) z .0 .of), z);
     new-holder = λ x r hx hr h. inl (old-held x r hx hr h, h);
     new-near = λ x r hx hr h y.
         let hx′ = old-held x r hx hr h in
         inl (hx′, h, subst (λ (T : Type 0). T) (near-is x r hx′) y);
-    new-message = λ x hx. newest x hx (ℕ-discrete (s count) x);
+    new-message = old-or-new (o .counting) w
+        (λ x. (x < s count)
+        ⊎ ToAll (multicast s p groups) x (multicast s p groups (sender x))
+        (λ r u. Fly (multicast s p groups) x 0 r u))
+        (inr (λ u hu au. subst (λ (r : ℕ). Fly (multicast s p groups) (s count) 0 r u) (sym (w .new-sender))
+        (first-letters u hu au)))
+        (λ x hx. inl hx);
     logged =
         λ r i hr hi. inl (hi, refl, ltb-true (s (fifo r i)) (s count) (fifo-addressed s sound r i hr hi .of));
     senders = sender-low s sound;
@@ -447,15 +404,3 @@ module _ (s : State) (es : List Event) (p groups : ℕ) (o : MeaningOf s es) (so
       old-held : (x r : ℕ) → x < s count + 1 → r < s size → Held s r x → x < s count
       old-held x r hx hr h =
           ltb-true x (s count) (held-facts s sound r x (low r hr) (omega arith) (omega arith) .of)
-
-      newest : (x : ℕ) → x < s count + 1 → Dec (s count ≡ x)
-          → (x < s count)
-          ⊎ ToAll (multicast s p groups) x (multicast s p groups (sender x))
-          (λ r u. Fly (multicast s p groups) x 0 r u)
-      newest x hx (no d) = inl (omega arith)
-      newest x hx (yes e) =
-          inr (subst
-          (λ (y : ℕ). ToAll (multicast s p groups) y (multicast s p groups (sender y))
-          (λ r u. Fly (multicast s p groups) y 0 r u)) e
-          (λ u hu au. subst (λ (r : ℕ). Fly (multicast s p groups) (s count) 0 r u) (sym (w .new-sender))
-          (first-letters u hu au)))

@@ -9,22 +9,16 @@ use mathlib.Core.Logic.{_⊎_, inl, inr, _≢_}
 use Prim.Native.Nat.{ℕ, _<_}
 use native.Mathlib.Omega.{arith}
 use Rattle.base.specs.Bits.{bit}
-use Rattle.world.specs.World.{size, count, up, fifo-length, held, marks, fifo, sender, flight, State}
+use Rattle.world.specs.World.{size, count, up, fifo-length, marks, fifo, sender, State}
 use Rattle.world.specs.Machine.{addressed}
 use Rattle.effects.specs.Cascade.{Near}
+use Rattle.effects.specs.Arrival.{Held, Fly}
+use Rattle.effects.specs.Spent.{Once}
 
 -- ---- words
--- r holds m; p has the OK mark of r for m; the letter of kind k for m from r to u flies; r is down
-abbrev pub Held : State → ℕ → ℕ → Type 0
-Held s r m = s (held r m) ≡ 1
-
 -- p has the mark of r
 abbrev pub Mark : State → ℕ → ℕ → ℕ → Type 0
 Mark s p m r = bit (s (marks p m)) r ≡ true
-
--- the letter flies
-abbrev pub Fly : State → ℕ → ℕ → ℕ → ℕ → Type 0
-Fly s m k r u = bit (s (flight m k r)) u ≡ true
 
 -- r is down
 abbrev pub Down : State → ℕ → Type 0
@@ -71,16 +65,14 @@ pub record Progress (s t : State) : Type 0 where
   pub same-size : t size ≡ s size
   pub same-to : (m r : ℕ) → m < s count → addressed t m r ≡ addressed s m r
   pub same-sender : (m : ℕ) → m < s count → t (sender m) ≡ s (sender m)
-  -- held, marked and in turn stay so; down is for good
-  pub held-on : (m r : ℕ) → m < s count → Held s r m → Held t r m
+  -- held and in turn stay so, and no letter is sent twice; marked stays so; down is for good
+  pub once : Once s t
   pub mark-on : (m r p : ℕ) → m < s count → r < s size → Mark s p m r → Mark t p m r
-  pub near-on : (m r : ℕ) → m < s count → Near s m r → Near t m r
   pub down-on : (r : ℕ) → Down s r → Down t r
   -- letters
   pub flown : (m k r u : ℕ) → m < s count → r < s size → u < s size → addressed s m u ≡ true → Fly s m k r u
       → Flown t m k r u
-  pub new-ok : (m r u : ℕ) → m < t count → r < s size → u < s size → Fly t m 2 r u
-      → ((m < s count) × Fly s m 2 r u) ⊎ (Held t r m × Near t m r)
+  pub old-ok : (m r u : ℕ) → m < t count → r < s size → u < s size → Fly s m 2 r u → m < s count
   pub new-mark : (m r p : ℕ) → m < t count → r < s size → p < s size → Mark t p m r
       → ((m < s count) × Mark s p m r) ⊎ ((m < s count) × Fly s m 2 r p)
   -- a new holder, one newly in turn, and the sender of a new message, write to all
@@ -100,12 +92,14 @@ pub net-progress : (s t : State) → Progress s t → Net s → Net t
 net-progress s t g n = record {
   kept = λ p i hp hi. elim (g .logged p i (small p hp) hi) [
     | inl a ↦ subst (Held t p) (sym (a .1))
-        (g .held-on (s (fifo p i)) p (a .2) (n .kept p i (small p hp) (a .0)))
+        (g .once .held-on (s (fifo p i)) p (a .2) (n .kept p i (small p hp) (a .0)))
     | inr a ↦ a
   ];
-  ok-flies = λ m r u hm hr hu f. elim (g .new-ok m r u hm (small r hr) (small u hu) f) [
-    | inl a ↦ on m r (a .0) (n .ok-flies m r u (a .0) (small r hr) (small u hu) (a .1))
-    | inr a ↦ a
+  ok-flies = λ m r u hm hr hu f. elim (g .once .new-letter 2 m r u f) [
+    | inl a ↦
+        let o = g .old-ok m r u hm (small r hr) (small u hu) a in
+        on m r o (n .ok-flies m r u o (small r hr) (small u hu) a)
+    | inr a ↦ a .1 .1
   ];
   ok-marked = λ m r u hm hr hu f. elim (g .new-mark m r u hm (small r hr) (small u hu) f) [
     | inl a ↦ on m r (a .0) (n .ok-marked m r u (a .0) (small r hr) (small u hu) (a .1))
@@ -113,19 +107,28 @@ net-progress s t g n = record {
   ];
   relayed = λ m r u hm hr hu h a. elim (g .new-holder m r hm (small r hr) h) [
     | inr all ↦ flies (all u hu a)
-    | inl o ↦ relay m r u (o .0) (small r hr) (small u hu) (old m u (o .0) a)
-        (n .relayed m r u (o .0) (small r hr) (small u hu) (o .1) (old m u (o .0) a))
+    | inl o ↦
+        let a′ = old m u (o .0) a in
+        told m r u (g .once .held-on m u (o .0)) (λ f. elim f [
+          | inl x ↦ letter 1 m r u (o .0) (small r hr) (small u hu) a′ (λ d _. d) inl x
+          | inr x ↦ letter 2 m r u (o .0) (small r hr) (small u hu) a′ (λ d _. d) inr x
+        ]) (n .relayed m r u (o .0) (small r hr) (small u hu) (o .1) a′)
   ];
   okayed = λ m r u hm hr hu h y a. elim (g .new-near m r hm (small r hr) h y) [
     | inr all ↦ flies (all u hu a)
-    | inl o ↦ okay m r u (o .0) (small r hr) (small u hu) (old m u (o .0) a)
-        (n .okayed m r u (o .0) (small r hr) (small u hu) (o .1) (o .2) (old m u (o .0) a))
+    | inl o ↦
+        let a′ = old m u (o .0) a in
+        told m r u (g .mark-on m r u (o .0) (small r hr))
+        (letter 2 m r u (o .0) (small r hr) (small u hu) a′ (λ _ d. d refl) (λ f. f))
+        (n .okayed m r u (o .0) (small r hr) (small u hu) (o .1) (o .2) a′)
   ];
   posted = λ m u hm hu a. elim (g .new-message m hm) [
     | inr all ↦ flies (all u hu a)
     | inl o ↦ subst (λ (r : ℕ). Told (Down t r) (Down t u) (Held t u m) (Fly t m 0 r u))
         (sym (g .same-sender m o))
-        (post m u o (small u hu) (old m u o a) (n .posted m u o (small u hu) (old m u o a)))
+        (told m (s (sender m)) u (g .once .held-on m u o)
+        (letter 0 m (s (sender m)) u o (g .senders m o) (small u hu) (old m u o a) (λ d _. d) (λ f. f))
+        (n .posted m u o (small u hu) (old m u o a)))
   ];
 }
   where
@@ -136,49 +139,25 @@ net-progress s t g n = record {
     old m u h a = sym (g .same-to m u h) ∙ a
 
     on : (m r : ℕ) → m < s count → Held s r m × Near s m r → Held t r m × Near t m r
-    on m r h y = (g .held-on m r h (y .0), g .near-on m r h (y .1))
+    on m r h y = (g .once .held-on m r h (y .0), g .once .near-on m r h (y .1))
 
-    relay : (m r u : ℕ) → m < s count → r < s size → u < s size → addressed s m u ≡ true
-        → Told (Down s r) (Down s u) (Held s u m) (Fly s m 1 r u ⊎ Fly s m 2 r u)
-        → Told (Down t r) (Down t u) (Held t u m) (Fly t m 1 r u ⊎ Fly t m 2 r u)
-    relay m r u hm hr hu a (is-done x) = is-done (g .held-on m u hm x)
-    relay m r u hm hr hu a (from-down x) = from-down (g .down-on r x)
-    relay m r u hm hr hu a (to-down x) = to-down (g .down-on u x)
-    relay m r u hm hr hu a (flies (inl x)) = elim (g .flown m 1 r u hm hr hu a x) [
-      | still f ↦ flies (inl f)
-      | landed h k ↦ is-done h
-      | lost-from d ↦ from-down d
-      | lost-to d ↦ to-down d
-    ]
-    relay m r u hm hr hu a (flies (inr x)) = elim (g .flown m 2 r u hm hr hu a x) [
-      | still f ↦ flies (inr f)
-      | landed h k ↦ is-done h
-      | lost-from d ↦ from-down d
-      | lost-to d ↦ to-down d
-    ]
+    -- what was told still is: what was done stays done, and a letter that flew still flies, has landed or is
+    -- lost
+    told : (m r u : ℕ) {done done′ fly fly′ : Type 0} → (done → done′)
+        → (fly → Told (Down t r) (Down t u) done′ fly′)
+        → Told (Down s r) (Down s u) done fly → Told (Down t r) (Down t u) done′ fly′
+    told m r u on fl (is-done x) = is-done (on x)
+    told m r u on fl (from-down x) = from-down (g .down-on r x)
+    told m r u on fl (to-down x) = to-down (g .down-on u x)
+    told m r u on fl (flies x) = fl x
 
-    okay : (m r u : ℕ) → m < s count → r < s size → u < s size → addressed s m u ≡ true
-        → Told (Down s r) (Down s u) (Mark s u m r) (Fly s m 2 r u)
-        → Told (Down t r) (Down t u) (Mark t u m r) (Fly t m 2 r u)
-    okay m r u hm hr hu a (is-done x) = is-done (g .mark-on m r u hm hr x)
-    okay m r u hm hr hu a (from-down x) = from-down (g .down-on r x)
-    okay m r u hm hr hu a (to-down x) = to-down (g .down-on u x)
-    okay m r u hm hr hu a (flies x) = elim (g .flown m 2 r u hm hr hu a x) [
-      | still f ↦ flies f
-      | landed h k ↦ is-done (k refl)
-      | lost-from d ↦ from-down d
-      | lost-to d ↦ to-down d
-    ]
-
-    post : (m u : ℕ) → m < s count → u < s size → addressed s m u ≡ true
-        → Told (Down s (s (sender m))) (Down s u) (Held s u m) (Fly s m 0 (s (sender m)) u)
-        → Told (Down t (s (sender m))) (Down t u) (Held t u m) (Fly t m 0 (s (sender m)) u)
-    post m u hm hu a (is-done x) = is-done (g .held-on m u hm x)
-    post m u hm hu a (from-down x) = from-down (g .down-on (s (sender m)) x)
-    post m u hm hu a (to-down x) = to-down (g .down-on u x)
-    post m u hm hu a (flies x) = elim (g .flown m 0 (s (sender m)) u hm (g .senders m hm) hu a x) [
-      | still f ↦ flies f
-      | landed h k ↦ is-done h
+    -- one letter of kind k
+    letter : (k m r u : ℕ) {done fly : Type 0} → m < s count → r < s size → u < s size
+        → addressed s m u ≡ true → (Held t u m → (k ≡ 2 → Mark t u m r) → done) → (Fly t m k r u → fly)
+        → Fly s m k r u → Told (Down t r) (Down t u) done fly
+    letter k m r u hm hr hu a lands flying x = elim (g .flown m k r u hm hr hu a x) [
+      | still f ↦ flies (flying f)
+      | landed h d ↦ is-done (lands h d)
       | lost-from d ↦ from-down d
       | lost-to d ↦ to-down d
     ]

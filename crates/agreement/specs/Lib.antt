@@ -3,4 +3,3 @@ pub mod Arrivals
 pub mod Turns
 pub mod Runs
 pub mod Agreement
-pub mod Once

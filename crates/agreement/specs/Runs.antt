@@ -2,49 +2,41 @@
 -- trust set in force names enough of. The trust rule of a list, its set put to the processes up at the end,
 -- is just such a set; a settle changes no trust set and no process's being up, so it stays one. Assumes
 -- nothing.
-use mathlib.Core.Path.{_≡_, refl, sym, ap, ap₂, _∙_, subst}
-use mathlib.Core.Bool.{Bool, true, false, not}
+use mathlib.Core.Path.{_≡_, refl, sym, ap, _∙_, subst}
+use mathlib.Core.Bool.{Bool, true, false}
 use mathlib.Core.List.{List, [], _∷_}
-use mathlib.Core.Logic.{_⊎_, inl, inr, _≢_}
+use mathlib.Core.Logic.{_≢_}
 use Prim.Native.Nat.{ℕ, _<_}
 use native.Mathlib.Omega.{arith}
 use native.Mathlib.Nat.{not-suc-le-zero}
-use lib.Dec.{eqb, ltb}
-use borrow.Author.Tests.{eqb-false, ltb-true}
-use Rattle.base.specs.Tests.{pick, clash, both}
+use borrow.Author.Tests.{ltb-true}
+use Rattle.base.specs.Tests.{pick}
 use Rattle.base.specs.Count.{In, in-at}
 use Rattle.base.specs.Bits.{bit}
 use Rattle.world.specs.World.{size, count, group, trust, up, causal-length, fifo-length, next, held, marks, fifo, mask, State, put}
 use Rattle.world.specs.Layout.{put-other}
 use Rattle.world.specs.SoundLaws.{size-high, held-facts}
 use Rattle.world.specs.Setup.{fresh, made}
-use Rattle.base.specs.Refusals.{needs}
 use Rattle.world.specs.Machine.{with-tables, cascade, raised, stamped, numbered, posted, multicast, leave, mark, arrival, trust-set, crash}
-use Rattle.world.specs.Steps.{Step, multicasts, arrives, loses, trusts, crashes, malformed, read, is-process, is-message, is-up, in-flight, refusal, accepted, step}
+use Rattle.world.specs.Steps.{Step, multicasts, arrives, loses, trusts, crashes, malformed, read, accepted, step}
 use Rattle.world.specs.StepLaws.{accepted-multicast, accepted-arrival, accepted-trust, lowest-moves}
 use Rattle.world.specs.Settle.{lowest}
 use Rattle.world.specs.SettleLaws.{settle-keeps}
-use Rattle.world.specs.History.{Event, Run, Item, given, settling, on-states, taken, tick, settles, act, run, Names, names, InForce, AllAlong}
-use Rattle.effects.specs.Views.{Messages, messages, Process, process, Ground, ground, Still}
+use Rattle.world.specs.History.{Event, Run, Item, given, settling, on-states, taken, tick, settles, act, run, InForce, AllAlong}
+use Rattle.effects.specs.Views.{messages, Process, process, Ground, ground, Still, place}
 use Rattle.effects.specs.Cascade.{cascade-still}
 use Rattle.effects.specs.Arrival.{mark-cases, hold-cases, marked-held, arrived, arrived-process, arrived-ground}
-use Rattle.effects.specs.Holding.{arrived-held, trusted-held, chosen-accepted}
+use Rattle.effects.specs.Holding.{loss-needs, arrival-ground, arrived-held, trusted-held, chosen-accepted}
 use Rattle.order.specs.Knowledge.{knowledge}
 use Rattle.order.specs.Counters.{OneMore}
-use Rattle.order.specs.Runs.{with-history, Whole, one-more, cascade-begins, whole-step, whole-act}
-use Rattle.agreement.specs.Letters.{Mark, Down, Net}
+use Rattle.order.specs.Multicast.{one-more}
+use Rattle.order.specs.Runs.{with-history, Whole, cascade-begins, whole-step, whole-act}
+use Rattle.agreement.specs.Letters.{Mark, Net}
 use Rattle.agreement.specs.Arrivals.{marked-on, arrived-net, lost-net, crashed-net, trusted-net, multicast-net}
-use Rattle.agreement.specs.Turns.{Covers, Vouched, vouched, Trusted, Pending, delivered, not-in-turn, unmarked, Aside, idle-aside, Live, live-cascade}
+use Rattle.agreement.specs.Turns.{names-same, Covers, Vouched, vouched, TrustedAt, Trusted, Pending, delivered, not-in-turn, unmarked, IdleAt, Live, live-cascade}
 
--- ---- the trust sets in force look at size, groups, trust sets and who is up
-names-same : (live : ℕ → Bool) (s t : State) (p q : ℕ) → ground t ≡ ground s → Names live s p q
-    → Names live t p q
-names-same live s t p q e (names r hr lr gr br) =
-    names r (omega (arith, ap (λ (g : Ground). g .size) e)) lr
-    (ap (λ (g : Ground). g .group r) e ∙ gr ∙ sym (ap (λ (g : Ground). g .group q) e))
-    (subst (λ (w : ℕ). bit w r ≡ true) (sym (ap (λ (g : Ground). g .trust p) e)) br)
-
--- so they stay in force where these stay
+-- ---- trust sets
+-- they stay in force where size, groups, trust sets and who is up stay
 pub in-force-same : (live : ℕ → Bool) (s t : State) → ground t ≡ ground s → InForce live s → InForce live t
 in-force-same live s t e f p q hp hq u l =
     names-same live s t p q e
@@ -54,16 +46,16 @@ in-force-same live s t e f p q hp hq u l =
 -- ---- an arrival, up to its cascade
 module _ (s : State) (k m q p : ℕ) where
   -- a process that it is not for has no part in it
-  aside-arrived : (r : ℕ) → p ≢ r → Aside s (arrived s k m q p) r
+  aside-arrived : (r : ℕ) → p ≢ r → place (arrived s k m q p) r ≡ place s r
   unfolding put leave
-  aside-arrived r n = record {
-    own = arrived-process s k m q p r;
-    size-is = ap (λ (g : Ground). g .size) (arrived-ground s k m q p);
-    messages-is = ap (λ (g : Ground). g .messages) (arrived-ground s k m q p);
-    group-is = λ x. ap (λ (g : Ground). g .group x) (arrived-ground s k m q p);
-    trust-is = ap (λ (g : Ground). g .trust r) (arrived-ground s k m q p);
-    held-is = held-there;
-    marks-is = marks-there;
+  aside-arrived r n = λ j. record {
+    size = arrived-ground s k m q p j .size;
+    messages = arrived-ground s k m q p j .messages;
+    groups = arrived-ground s k m q p j .group;
+    own = arrived-process s k m q p r j;
+    trust = arrived-ground s k m q p j .trust r;
+    held = λ x. held-there x j;
+    marks = λ x. marks-there x j;
   }
     where
       held-there : (x : ℕ) → arrived s k m q p (held r x) ≡ s (held r x)
@@ -97,34 +89,14 @@ module _ (s : State) (k m q p : ℕ) where
       (omega (arith, ap (λ (v : Ground). v .size) g)) lo
       (sym (ap (λ (v : Ground). bit (v .messages .mask x) (v .group o)) g) ∙ a))
     where
-      go : Vouched live s r x o → Vouched live (arrived s k m q p) r x o
+      go : Vouched live (s size) (λ u. s (group u)) (s (marks r x)) o
+          → Vouched live (arrived s k m q p size) (λ u. arrived s k m q p (group u))
+          (arrived s k m q p (marks r x)) o
       go (vouched u hu lu gu mu) =
           let g = arrived-ground s k m q p in
           vouched u (omega (arith, ap (λ (v : Ground). v .size) g)) lu
           (ap (λ (v : Ground). v .group u) g ∙ gu ∙ sym (ap (λ (v : Ground). v .group o) g))
           (marks-on r x u mu)
-
--- ---- a loss is accepted only where one end is down
-loss-needs : (s : State) (k m q p : ℕ) → accepted s (loses k m q p) ≡ true → Down s q ⊎ Down s p
-unfolding refusal
-loss-needs s k m q p e =
-    which (is-up s q) (is-up s p) refl refl
-    (go (ltb k 3) (both (is-process s q) (is-process s p)) (is-message s m) (in-flight s k m q p)
-    (not (both (is-up s q) (is-up s p))) e)
-  where
-    go : (a b c d f : Bool) → eqb (needs 4 a (needs 5 b (needs 7 c (needs 11 d (needs 12 f 0))))) 0 ≡ true
-        → f ≡ true
-    go a b c d true z = refl
-    go true true true true false z = clash {b = false} z refl
-    go true true true false false z = clash {b = false} z refl
-    go true true false d false z = clash {b = false} z refl
-    go true false c d false z = clash {b = false} z refl
-    go false b c d false z = clash {b = false} z refl
-
-    which : (a b : Bool) → is-up s q ≡ a → is-up s p ≡ b → not (both a b) ≡ true → Down s q ⊎ Down s p
-    which false b x y z = inl (eqb-false (s (up q)) 1 x)
-    which true false x y z = inr (eqb-false (s (up p)) 1 y)
-    which true true x y z = clash {b = false} z refl
 
 -- ---- every accepted step
 module _ (live : ℕ → Bool) (s : State) (es : List Event) (w : Whole (with-history s es))
@@ -141,15 +113,14 @@ module _ (live : ℕ → Bool) (s : State) (es : List Event) (w : Whole (with-hi
         pending r x hx′ (v .idle r hr x hx′ h);
     trusted = λ r x q f hq lq a.
         let hx : x < s count =
-        elim f [ in-at i h e ↦ subst (λ (z : ℕ). z < s count) e (w .meaning .fifos r .old i h) ] in
-        same r x q
-        (v .trusted r x q f hq lq (subst (λ (z : ℕ). bit z (s (group q)) ≡ true) (o .old-mask x hx) a));
+        elim f [ in-at i h e ↦ subst (λ (z : ℕ). z < s count) e (w .meaning .each r .fifo-log .old i h) ] in
+        v .trusted r x q f hq lq (subst (λ (z : ℕ). bit z (s (group q)) ≡ true) (o .old-mask x hx) a);
   }
     where
       o : OneMore (messages s) (knowledge es) p groups (messages (multicast s p groups))
       o = one-more s es p groups (w .meaning)
 
-      pending : (r x : ℕ) → x < s count → Pending s r x → Pending (multicast s p groups) r x
+      pending : (r x : ℕ) → x < s count → Pending (place s r) x → Pending (place (multicast s p groups) r) x
       pending r x hx (delivered f) = delivered f
       pending r x hx (not-in-turn d) =
           not-in-turn
@@ -159,9 +130,6 @@ module _ (live : ℕ → Bool) (s : State) (es : List Event) (w : Whole (with-hi
       pending r x hx (unmarked q hq b a d) =
           unmarked q hq b (subst (λ (z : ℕ). bit z (s (group q)) ≡ true) (sym (o .old-mask x hx)) a) d
 
-      same : (r x q : ℕ) → Vouched live s r x q → Vouched live (multicast s p groups) r x q
-      same r x q (vouched u hu lu gu mu) = vouched u hu lu gu mu
-
   -- an arrival
   arrival-live : (k m q p : ℕ) → accepted s (arrives k m q p) ≡ true → Covers live s p
       → Live live (arrival s k m q p)
@@ -170,15 +138,14 @@ module _ (live : ℕ → Bool) (s : State) (es : List Event) (w : Whole (with-hi
       let l = accepted-arrival s k m q p e .letter in
       let g = arrived-ground s k m q p in
       live-cascade live p (s (causal-length p)) es (arrived s k m q p) (arrived-held s (w .sound) k m q p l)
-      (cascade-begins s (arrived s k m q p) es p (l .to) (ap (λ (v : Ground). v .messages) g)
-      (ap (λ (v : Ground). v .size) g)
-      (arrived-process s k m q p) (w .meaning) (w .quiet))
+      (cascade-begins s (arrived s k m q p) es (ap (λ (v : Ground). v .messages) g)
+      (ap (λ (v : Ground). v .size) g) (arrived-process s k m q p) p (w .meaning) (w .quiet))
       (λ x hx lx. names-same live s (arrived s k m q p) p x g
       (c x (omega (arith, ap (λ (v : Ground). v .size) g)) lx))
-      (arrived-net s k m q p l (w .sound) (w .meaning .fifos p)
+      (arrived-net s k m q p l (w .sound) (w .meaning .each p .fifo-log)
       (w .meaning .counting .numbers m (s (group p)) (l .message)) (v .net))
       (arrived-trusted s k m q p live (v .trusted))
-      (λ r hr n. idle-aside s (arrived s k m q p) r (aside-arrived s k m q p r n)
+      (λ r hr n. subst IdleAt (sym (aside-arrived s k m q p r n))
       (v .idle r (omega (arith, ap (λ (v : Ground). v .size) g))))
 
   -- a trust step, whose new set names enough
@@ -186,37 +153,28 @@ module _ (live : ℕ → Bool) (s : State) (es : List Event) (w : Whole (with-hi
   unfolding trust-set put
   trust-live p set hp c =
       live-cascade live p (s (causal-length p)) es (put s (trust p) set) (trusted-held s (w .sound) p set hp)
-      (cascade-begins s (put s (trust p) set) es p hp refl refl (λ r. refl) (w .meaning) (w .quiet)) c
+      (cascade-begins s (put s (trust p) set) es refl refl (λ r. refl) p (w .meaning) (w .quiet)) c
       (trusted-net s p set (v .net))
-      (λ r x q f hq lq a. same r x q (v .trusted r x q f hq lq a))
-      (λ r hr n. idle-aside s (put s (trust p) set) r (record {
-        own = refl;
-        size-is = refl;
-        messages-is = refl;
-        group-is = λ q. refl;
-        trust-is = put-other s (trust p) (trust r) set (λ e. n (cc));
-        held-is = λ m. refl;
-        marks-is = λ m. refl;
-      }) (v .idle r hr))
+      (v .trusted) (λ r hr n. subst IdleAt (sym (aside r n)) (v .idle r hr))
     where
-      same : (r x q : ℕ) → Vouched live s r x q → Vouched live (put s (trust p) set) r x q
-      same r x q (vouched u hu lu gu mu) = vouched u hu lu gu mu
+      aside : (r : ℕ) → p ≢ r → place (put s (trust p) set) r ≡ place s r
+      aside r n = λ j. record {
+        size = s size;
+        messages = messages s;
+        groups = λ q. s (group q);
+        own = process s r;
+        trust = put-other s (trust p) (trust r) set (λ e. n (cc)) j;
+        held = λ m. s (held r m);
+        marks = λ m. s (marks r m);
+      }
 
   -- a letter is lost, or a process crashes: no message is delivered, and none that was held is ready now
-  plain-live : (t : State) → Net t → ((r : ℕ) → Aside s t r) → Live live t
-  plain-live t n a = record {
+  plain-live : (t : State) → Net t → t size ≡ s size → ((r : ℕ) → place t r ≡ place s r) → Live live t
+  plain-live t n z a = record {
     net = n;
-    idle = λ r hr. idle-aside s t r (a r) (v .idle r (omega (arith, a r .size-is)));
-    trusted = λ r x q f hq lq b. back r x q (v .trusted r x q
-        (subst (λ (o : Process). In (o .fifo-length) (o .fifo) x) (a r .own) f) (omega (arith, a r .size-is))
-        lq
-        (sym (ap₂ (λ (y : Messages) (g : ℕ). bit (y .mask x) g) (a r .messages-is) (a r .group-is q)) ∙ b));
+    idle = λ r hr. subst IdleAt (sym (a r)) (v .idle r (omega arith));
+    trusted = λ r. subst (TrustedAt live) (sym (a r)) (v .trusted r);
   }
-    where
-      back : (r x q : ℕ) → Vouched live s r x q → Vouched live t r x q
-      back r x q (vouched u hu lu gu mu) =
-          vouched u (omega (arith, a r .size-is)) lu (a r .group-is u ∙ gu ∙ sym (a r .group-is q))
-          (subst (λ (z : ℕ). bit z u ≡ true) (sym (a r .marks-is x)) mu)
 
   -- every accepted step
   pub live-step : (x : Step) → accepted s x ≡ true → InForce live s → InForce live (step s x)
@@ -227,18 +185,8 @@ module _ (live : ℕ → Bool) (s : State) (es : List Event) (w : Whole (with-hi
       let a = accepted-arrival s k m q p e in
       arrival-live k m q p e (λ x hx lx. f p x (a .letter .to) hx (a .live) lx)
   live-step (loses k m q p) e f f′ =
-      plain-live (leave s k m q p) (lost-net s k m q p (w .sound) (loss-needs s k m q p e) (v .net)) unmoved
-    where
-      unmoved : (r : ℕ) → Aside s (leave s k m q p) r
-      unmoved r = record {
-        own = refl;
-        size-is = refl;
-        messages-is = refl;
-        group-is = λ q. refl;
-        trust-is = refl;
-        held-is = λ m. refl;
-        marks-is = λ m. refl;
-      }
+      plain-live (leave s k m q p) (lost-net s k m q p (w .sound) (loss-needs s k m q p e) (v .net)) refl
+      (λ r. refl)
   live-step (trusts p set) e f f′ =
       trust-live p set (accepted-trust s p set e .process)
       (covered (accepted-trust s p set e .process) (accepted-trust s p set e .live))
@@ -250,18 +198,7 @@ module _ (live : ℕ → Bool) (s : State) (es : List Event) (w : Whole (with-hi
           let z : cascade (put s (trust p) set) p size ≡ s size = ap (λ (x : Ground). x .size) g in
           names-same live (cascade (put s (trust p) set) p) (put s (trust p) set) p q (sym g)
           (f′ p q (omega (arith, z)) (omega (arith, z)) (ap (λ (x : Ground). x .up p) g ∙ u) lq)
-  live-step (crashes p) e f f′ = plain-live (put s (up p) 0) (crashed-net s p (v .net)) unmoved
-    where
-      unmoved : (r : ℕ) → Aside s (put s (up p) 0) r
-      unmoved r = record {
-        own = refl;
-        size-is = refl;
-        messages-is = refl;
-        group-is = λ q. refl;
-        trust-is = refl;
-        held-is = λ m. refl;
-        marks-is = λ m. refl;
-      }
+  live-step (crashes p) e f f′ = plain-live (put s (up p) 0) (crashed-net s p (v .net)) refl (λ r. refl)
   live-step malformed e f f′ = v
 
 -- ---- a fresh world
@@ -286,12 +223,6 @@ pub record During (live : ℕ → Bool) (r t : Run State) : Type 0 where
   pub whole : Whole t
   pub lives : Live live (t .now)
   pub ground-is : ground (t .now) ≡ ground (r .now)
-
--- an arrival changes no trust set, no group, and nobody goes down
-pub arrival-ground : (s : State) (k m q p : ℕ) → ground (arrival s k m q p) ≡ ground s
-unfolding arrival
-arrival-ground s k m q p =
-    ap (λ (v : Still). v .ground) (cascade-still (arrived s k m q p) p) ∙ arrived-ground s k m q p
 
 -- an arrival of a settle
 pub arrival-during : (live : ℕ → Bool) (r t : Run State) (k m q p : ℕ) → InForce live (r .now)

@@ -12,21 +12,23 @@ use native.Mathlib.Decide.{ℕ-discrete}
 use lib.Dec.{eqb}
 use borrow.Author.Tests.{eq-eqb, not-true}
 use Rattle.base.specs.Tests.{le-or-lt, clash, both, both-l, both-r, both-i, either, either-e, at-or-off}
+use Rattle.base.specs.Loop.{loop-keeps}
 use Rattle.base.specs.Search.{every, every-true, every-false}
 use Rattle.base.specs.Count.{In, in-at, in-dec, out-absent}
 use Rattle.base.specs.Bits.{bit}
 use Rattle.world.specs.World.{size, count, group, trust, up, fifo-length, next, held, marks, fifo, sender, mask, number, State}
 use Rattle.world.specs.Machine.{addressed, in-turn, outside-fifo, marked, ready, fifo-one, cascade}
 use Rattle.world.specs.History.{Event, Names, names}
-use Rattle.effects.specs.Loops.{loop-end}
-use Rattle.effects.specs.Views.{Messages, messages, Process, process, ground, Still}
+use Rattle.world.specs.Fuel.{cascade-quiet}
+use Rattle.effects.specs.Views.{Process, Ground, ground, Still, Place, place-of, place}
 use Rattle.effects.specs.Views.{still as still-view}
-use Rattle.effects.specs.Cascade.{Near, turn-number, turn-next, near-on, ok-near, Front, fifo-one-front, next-cases, NewOk, ok-sent, letter-cases, fifo-one-still, fifo-one-there}
+use Rattle.effects.specs.Cascade.{Near, turn-number, turn-next, Front, fifo-one-front, next-cases, NewOk, ok-sent, letter-cases, fifo-one-still, fifo-one-there}
 use Rattle.effects.specs.Holding.{HeldTo}
+use Rattle.effects.specs.Spent.{turn-once}
 use Rattle.order.specs.Logs.{item-cases}
-use Rattle.order.specs.Cascade.{MeaningOf, Ready, ready-facts, Cascading, cascading-more, left-outside, outside-falls, outside-room}
-use Rattle.order.specs.Order.{Fifo}
-use Rattle.agreement.specs.Letters.{Held, Mark, Fly, Net, still, Progress, net-progress}
+use Rattle.order.specs.Cascade.{Fifo, MeaningOf, Ready, ready-facts, Cascading, cascading-more}
+use Rattle.effects.specs.Arrival.{Held, Fly}
+use Rattle.agreement.specs.Letters.{Mark, Net, still, Progress, net-progress}
 use Rattle.agreement.specs.Arrivals.{in-addressees}
 
 -- ---- a turn of the cascade
@@ -62,21 +64,19 @@ module _ (t : State) (p m : ℕ) (y : Ready t p m) (es : List Event) (o : Meanin
   -- a message that came in turn by this turn is one for which p sends an OK
   newly-near : (x r : ℕ) → x < t count → Held t r x → Near (fifo-one t p m) x r
       → t (next r (t (sender x))) < t (number x (t (group r)))
-      → (p ≡ r) × NewOk t p m x 2 p
+      → (p ≡ r) × NewOk t p m x
   newly-near x r hx h n far = go (next-cases t p m r (t (sender x)))
     where
       go : (fifo-one t p m (next r (t (sender x))) ≡ t (next r (t (sender x))))
           ⊎ ((p ≡ r) × (t (sender m) ≡ t (sender x))
           × (fifo-one t p m (next r (t (sender x))) ≡ t (next r (t (sender x))) + 1))
-          → (p ≡ r) × NewOk t p m x 2 p
+          → (p ≡ r) × NewOk t p m x
       go (inl a) = absurd (omega (arith, turn-number t p m x r, turn-next t p m x r, a))
       go (inr a) =
           let at-r : t (number x (t (group r))) ≡ t (next r (t (sender x))) + 1 =
           omega (arith, turn-number t p m x r, turn-next t p m x r, a .2) in (
             a .0,
             record {
-              is-ok = refl;
-              by = refl;
               low = hx;
               has = subst (λ (z : ℕ). Held t z x) (sym (a .0)) h;
               of = sym (a .1);
@@ -111,18 +111,14 @@ module _ (t : State) (p m : ℕ) (y : Ready t p m) (es : List Event) (o : Meanin
     same-size = turn-size;
     same-to = λ x r _. turn-to x r;
     same-sender = λ x _. turn-sender x;
-    held-on = λ x r _ h. turn-held r x ∙ h;
+    once = turn-once t p m;
     mark-on = λ x r u _ _ z. subst (λ (w : ℕ). bit w r ≡ true) (sym (turn-marks u x)) z;
-    near-on = λ x r _. near-on t p m x r;
     down-on = λ r d e. d (sym (ap (λ (s : Still). s .ground .up r) same) ∙ e);
     flown = λ x k r u hx hr hu a z. elim (letter-cases t p m x k r) [
-      | inl c ↦ still (subst (λ (w : ℕ). bit w u ≡ true) (sym (c .1)) (in-addressees t x u hu a))
+      | inl c ↦ still (subst (λ (w : ℕ). bit w u ≡ true) (sym (c .3)) (in-addressees t x u hu a))
       | inr c ↦ still (subst (λ (w : ℕ). bit w u ≡ true) (sym c) z)
     ];
-    new-ok = λ x r u hx hr hu z. elim (letter-cases t p m x 2 r) [
-      | inl c ↦ inr (ok-holder x r (c .0))
-      | inr c ↦ inl (omega (arith, turn-count), subst (λ (w : ℕ). bit w u ≡ true) c z)
-    ];
+    old-ok = λ x r u hx _ _ _. omega (arith, turn-count);
     new-mark =
         λ x r u hx hr hu z. inl
         (omega (arith, turn-count), subst (λ (w : ℕ). bit w r ≡ true) (turn-marks u x) z);
@@ -131,18 +127,13 @@ module _ (t : State) (p m : ℕ) (y : Ready t p m) (es : List Event) (o : Meanin
         (le-or-lt (t (number x (t (group r)))) (t (next r (t (sender x)))));
     new-message = λ x hx. inl (omega (arith, turn-count));
     logged = λ r i hr hi. elim (log-cases r i hi) [
-      | inl a ↦ inl (a .0, a .1, o .fifos r .old i (a .0))
+      | inl a ↦ inl (a .0, a .1, o .each r .fifo-log .old i (a .0))
       | inr a ↦ inr
           (subst₂ (λ (z w : ℕ). Held (fifo-one t p m) z w) (a .0) (sym (a .1)) (turn-held p m ∙ y .has))
     ];
     senders = o .counting .senders;
   }
     where
-      ok-holder : (x r : ℕ) → NewOk t p m x 2 r → Held (fifo-one t p m) r x × Near (fifo-one t p m) x r
-      ok-holder x r c =
-          subst (λ (z : ℕ). Held (fifo-one t p m) z x × Near (fifo-one t p m) x z) (c .by)
-          (turn-held p x ∙ c .has, ok-near t p m x 2 r c)
-
       nears : (x r : ℕ) → x < t count → Held t r x → Near (fifo-one t p m) x r
           → (t (number x (t (group r))) ≤ t (next r (t (sender x))))
           ⊎ (t (next r (t (sender x))) < t (number x (t (group r))))
@@ -165,15 +156,21 @@ module _ (t : State) (p m : ℕ) (y : Ready t p m) (es : List Event) (o : Meanin
 abbrev pub Covers : (ℕ → Bool) → State → ℕ → Type 0
 Covers live s p = (q : ℕ) → q < s size → live q ≡ true → Names live s p q
 
--- a live process of the group of q has marked m at p
-pub data Vouched (live : ℕ → Bool) (s : State) (p m q : ℕ) : Type 0 where
-  vouched : (r : ℕ) → r < s size → live r ≡ true → s (group r) ≡ s (group q) → Mark s p m r
-      → Vouched live s p m q
+-- of n processes in these groups, a live one of the group of q is among the marks
+pub data Vouched (live : ℕ → Bool) (n : ℕ) (groups : ℕ → ℕ) (marks q : ℕ) : Type 0 where
+  vouched : (r : ℕ) → r < n → live r ≡ true → groups r ≡ groups q → bit marks r ≡ true
+      → Vouched live n groups marks q
 
--- so of every message in a FIFO log, for each group of its mask with a live process
+-- so of every message in the FIFO log of a process, for each group of its mask with a live process
+abbrev pub TrustedAt : (ℕ → Bool) → Place → Type 0
+TrustedAt live v =
+    (m q : ℕ) → In (v .own .fifo-length) (v .own .fifo) m → q < v .size → live q ≡ true
+    → bit (v .messages .mask m) (v .groups q) ≡ true
+    → Vouched live (v .size) (v .groups) (v .marks m) q
+
+-- and of every process
 abbrev pub Trusted : (ℕ → Bool) → State → Type 0
-Trusted live s =
-    (p m q : ℕ) → Fifo s p m → q < s size → live q ≡ true → addressed s m q ≡ true → Vouched live s p m q
+Trusted live s = (p : ℕ) → TrustedAt live (place s p)
 
 -- a ready message has the marks of all that its process trusts
 ready-marks : (s : State) (p m : ℕ) → Ready s p m → (q : ℕ) → q < s size → bit (s (trust p)) q ≡ true
@@ -187,31 +184,27 @@ ready-marks s p m y q h b a =
       | inr x ↦ x
     ]
 
--- marks, groups and the number of processes are as they were
-pub vouched-same : (live : ℕ → Bool) (s t : State) (p m q : ℕ) → still-view t ≡ still-view s
-    → Vouched live s p m q → Vouched live t p m q
-vouched-same live s t p m q e (vouched r hr lr gr mr) =
-    vouched r (omega (arith, ap (λ (w : Still). w .ground .size) e)) lr
-    (ap (λ (w : Still). w .ground .group r) e ∙ gr ∙ sym (ap (λ (w : Still). w .ground .group q) e))
-    (subst (λ (w : ℕ). bit w r ≡ true) (sym (ap (λ (w : Still). w .marks p m) e)) mr)
+-- the trust sets look at size, groups, trust sets and who is up
+pub names-same : (live : ℕ → Bool) (s t : State) (p q : ℕ) → ground t ≡ ground s → Names live s p q
+    → Names live t p q
+names-same live s t p q e (names r hr lr gr br) =
+    names r (omega (arith, ap (λ (g : Ground). g .size) e)) lr
+    (ap (λ (g : Ground). g .group r) e ∙ gr ∙ sym (ap (λ (g : Ground). g .group q) e))
+    (subst (λ (w : ℕ). bit w r ≡ true) (sym (ap (λ (g : Ground). g .trust p) e)) br)
 
--- the trust set is as it was
-pub covers-same : (live : ℕ → Bool) (s t : State) (p : ℕ) → still-view t ≡ still-view s → Covers live s p
+-- so where these are as they were, a trust set names as much
+pub covers-same : (live : ℕ → Bool) (s t : State) (p : ℕ) → ground t ≡ ground s → Covers live s p
     → Covers live t p
-covers-same live s t p e c q hq lq = go (c q (omega (arith, ap (λ (w : Still). w .ground .size) e)) lq)
-  where
-    go : Names live s p q → Names live t p q
-    go (names r hr lr gr br) =
-        names r (omega (arith, ap (λ (w : Still). w .ground .size) e)) lr
-        (ap (λ (w : Still). w .ground .group r) e ∙ gr ∙ sym (ap (λ (w : Still). w .ground .group q) e))
-        (subst (λ (w : ℕ). bit w r ≡ true) (sym (ap (λ (w : Still). w .ground .trust p) e)) br)
+covers-same live s t p e c q hq lq =
+    names-same live s t p q e (c q (omega (arith, ap (λ (g : Ground). g .size) e)) lq)
 
 -- a turn keeps what trust gives
 turn-trusted : (live : ℕ → Bool) (t : State) (p m : ℕ) (y : Ready t p m) (es : List Event) → MeaningOf t es
     → Covers live t p
     → Trusted live t → Trusted live (fifo-one t p m)
 turn-trusted live t p m y es o c tr r x q (in-at i h e) hq lq a =
-    vouched-same live t (fifo-one t p m) r x q (fifo-one-still t p m) (go (log-cases t p m y es o r i h))
+    subst (λ (v : Still). Vouched live (v .ground .size) (v .ground .group) (v .marks r x) q)
+    (sym (fifo-one-still t p m)) (go (log-cases t p m y es o r i h))
   where
     hq′ : q < t size
     hq′ = omega (arith, turn-size t p m y es o)
@@ -219,35 +212,41 @@ turn-trusted live t p m y es o c tr r x q (in-at i h e) hq lq a =
     a′ : addressed t x q ≡ true
     a′ = sym (turn-to t p m y es o x q) ∙ a
 
-    new-one : Names live t p q → addressed t m q ≡ true → Vouched live t p m q
+    new-one : Names live t p q → addressed t m q ≡ true
+        → Vouched live (t size) (λ u. t (group u)) (t (marks p m)) q
     new-one (names u hu lu gu bu) am =
         vouched u hu lu gu
         (ready-marks t p m y u hu bu (subst (λ (g : ℕ). bit (t (mask m)) g ≡ true) (sym gu) am))
 
     go : ((i < t (fifo-length r)) × (fifo-one t p m (fifo r i) ≡ t (fifo r i)))
         ⊎ ((p ≡ r) × (fifo-one t p m (fifo r i) ≡ m))
-        → Vouched live t r x q
+        → Vouched live (t size) (λ u. t (group u)) (t (marks r x)) q
     go (inl b) = tr r x q (in-at i (b .0) (sym (b .1) ∙ e)) hq′ lq a′
     go (inr b) =
         let mx : m ≡ x = sym (b .1) ∙ e in
-        subst₂ (λ (z w : ℕ). Vouched live t z w q) (b .0) mx
+        subst₂ (λ (z w : ℕ). Vouched live (t size) (λ u. t (group u)) (t (marks z w)) q) (b .0) mx
         (new-one (c q hq′ lq) (subst (λ (w : ℕ). addressed t w q ≡ true) (sym mx) a′))
 
 -- ---- why a held message is not delivered: it is, it is not in turn, or a trusted addressee's mark is
 -- missing
-pub data Pending (s : State) (p m : ℕ) : Type 0 where
-  delivered : Fifo s p m → Pending s p m
-  not-in-turn : s (number m (s (group p))) ≢ s (next p (s (sender m))) → Pending s p m
-  unmarked : (q : ℕ) → q < s size → bit (s (trust p)) q ≡ true → addressed s m q ≡ true
-      → bit (s (marks p m)) q ≡ false
-      → Pending s p m
+pub data Pending (v : Place) (m : ℕ) : Type 0 where
+  delivered : In (v .own .fifo-length) (v .own .fifo) m → Pending v m
+  not-in-turn : v .messages .number m (v .own .group) ≢ v .own .next (v .messages .sender m) → Pending v m
+  unmarked : (q : ℕ) → q < v .size → bit (v .trust) q ≡ true
+      → bit (v .messages .mask m) (v .groups q) ≡ true
+      → bit (v .marks m) q ≡ false
+      → Pending v m
 
--- so of every message that p holds
+-- so of every message that a process holds
+abbrev pub IdleAt : Place → Type 0
+IdleAt v = (m : ℕ) → m < v .messages .total → v .held m ≡ 1 → Pending v m
+
+-- of p in a state
 abbrev pub Idle : State → ℕ → Type 0
-Idle s p = (m : ℕ) → m < s count → Held s p m → Pending s p m
+Idle s p = IdleAt (place s p)
 
 -- a message that is not ready
-not-ready : (s : State) (p m : ℕ) → ready s p m ≡ false → Held s p m → Pending s p m
+not-ready : (s : State) (p m : ℕ) → ready s p m ≡ false → Held s p m → Pending (place s p) m
 unfolding ready
 not-ready s p m e h =
     go (in-dec (s (fifo-length p)) (λ j. s (fifo p j)) m)
@@ -257,7 +256,7 @@ not-ready s p m e h =
     neither true b z = (refl, z)
     neither false b z = clash {b = true} refl z
 
-    found : (q : ℕ) × (q < s size) × (marked s p m q ≡ false) → Pending s p m
+    found : (q : ℕ) × (q < s size) × (marked s p m q ≡ false) → Pending (place s p) m
     found (q, hq, z) =
         let d = neither (both (bit (s (trust p)) q) (addressed s m q)) (bit (s (marks p m)) q) z in
         unmarked q hq (both-l (bit (s (trust p)) q) (addressed s m q) (d .0))
@@ -269,42 +268,14 @@ not-ready s p m e h =
     last true false c d x y z w = clash y refl
     last false b c d x y z w = clash x refl
 
-    go : Dec (Fifo s p m) → Dec (s (number m (s (group p))) ≡ s (next p (s (sender m)))) → Pending s p m
+    go : Dec (Fifo s p m) → Dec (s (number m (s (group p))) ≡ s (next p (s (sender m))))
+        → Pending (place s p) m
     go (yes x) d = delivered x
     go (no x) (no d) = not-in-turn d
     go (no x) (yes d) = found (every-false (s size) (marked s p m)
         (last (eqb (s (held p m)) 1) (outside-fifo s p m) (in-turn s p m) (every (s size) (marked s p m))
         (eq-eqb (s (held p m)) 1 h)
         (out-absent x) (eq-eqb (s (number m (s (group p)))) (s (next p (s (sender m)))) d) e))
-
--- ---- a change that r has no part in
-pub record Aside (s t : State) (r : ℕ) : Type 0 where
-  pub own : process t r ≡ process s r
-  pub size-is : t size ≡ s size
-  pub messages-is : messages t ≡ messages s
-  pub group-is : (q : ℕ) → t (group q) ≡ s (group q)
-  pub trust-is : t (trust r) ≡ s (trust r)
-  pub held-is : (m : ℕ) → t (held r m) ≡ s (held r m)
-  pub marks-is : (m : ℕ) → t (marks r m) ≡ s (marks r m)
-
--- a process aside is idle still
-pub idle-aside : (s t : State) (r : ℕ) → Aside s t r → Idle s r → Idle t r
-idle-aside s t r a i m hm h =
-    go (i m (omega (arith, ap (λ (w : Messages). w .total) (a .messages-is))) (sym (a .held-is m) ∙ h))
-  where
-    number-is : t (number m (t (group r))) ≡ s (number m (s (group r)))
-    number-is = ap₂ (λ (w : Messages) (g : ℕ). w .number m g) (a .messages-is) (a .group-is r)
-
-    next-is : t (next r (t (sender m))) ≡ s (next r (s (sender m)))
-    next-is = ap₂ (λ (o : Process) (w : Messages). o .next (w .sender m)) (a .own) (a .messages-is)
-
-    go : Pending s r m → Pending t r m
-    go (delivered f) = delivered (subst (λ (o : Process). In (o .fifo-length) (o .fifo) m) (sym (a .own)) f)
-    go (not-in-turn d) = not-in-turn (λ e. d (sym number-is ∙ e ∙ next-is))
-    go (unmarked q hq b c d) =
-        unmarked q (omega (arith, a .size-is)) (ap (λ (w : ℕ). bit w q) (a .trust-is) ∙ b)
-        (ap₂ (λ (w : Messages) (g : ℕ). bit (w .mask m) g) (a .messages-is) (a .group-is q) ∙ c)
-        (ap (λ (w : ℕ). bit w q) (a .marks-is m) ∙ d)
 
 -- ---- the cascade
 -- what holds of a state for a set of live processes
@@ -326,40 +297,24 @@ pub live-cascade : (live : ℕ → Bool) (p a : ℕ) (es : List Event) (b : Stat
 unfolding cascade
 live-cascade live p a es b h c cov n tr idle =
     let end =
-    loop-end (λ u. u count) (λ u. ready u p) (λ u. fifo-one u p) (Turning live p a es b) (left-outside p)
-    (λ u m hm e first k.
+    loop-keeps (λ u. u count) (λ u. ready u p) (λ u. fifo-one u p) (Turning live p a es b)
+    (λ u m hm e _ k.
     let y = ready-facts u p m e in
     let o = k .cascading .meaning in
     record {
-      keeps = record {
-        cascading = cascading-more p a es b u h m hm y (k .cascading);
-        net = turn-net u p m y _ o (k .net);
-        trusted =
-            turn-trusted live u p m y _ o (covers-same live b u p (k .cascading .same) cov) (k .trusted);
-      };
-      falls = outside-falls u p m hm (y .outside);
-    })
-    (b count - b (fifo-length p)) b (record {
-      cascading = c;
-      net = n;
-      trusted = tr;
-    }) (outside-room p b (c .meaning .fifos p)) in
+      cascading = cascading-more p a es b u h m hm y (k .cascading);
+      net = turn-net u p m y _ o (k .net);
+      trusted =
+          turn-trusted live u p m y _ o
+          (covers-same live b u p (ap (λ (v : Still). v .ground) (k .cascading .same)) cov) (k .trusted);
+    }) (b count - b (fifo-length p)) b (record { cascading = c; net = n; trusted = tr }) in
+    let log = c .meaning .each p .fifo-log in
     record {
-      net = end .kept .net;
+      net = end .net;
       idle = λ r hr. at-or-off p (λ x. x < cascade b p size → Idle (cascade b p) x)
-          (λ _ m hm d. not-ready (cascade b p) p m (end .none-left m hm) d)
-          (λ x d hx. idle-aside b (cascade b p) x (beside x d (end .kept .cascading))
-          (idle x (omega (arith, ap (λ (w : Still). w .ground .size) (end .kept .cascading .same))) d)) r hr;
-      trusted = end .kept .trusted;
-    }
-  where
-    beside : (x : ℕ) → p ≢ x → Cascading p a es b (cascade b p) → Aside b (cascade b p) x
-    beside x d k = record {
-      own = k .there x d;
-      size-is = ap (λ (w : Still). w .ground .size) (k .same);
-      messages-is = ap (λ (w : Still). w .ground .messages) (k .same);
-      group-is = λ q. ap (λ (w : Still). w .ground .group q) (k .same);
-      trust-is = ap (λ (w : Still). w .ground .trust x) (k .same);
-      held-is = λ m. ap (λ (w : Still). w .held x m) (k .same);
-      marks-is = λ m. ap (λ (w : Still). w .marks x m) (k .same);
+          (λ _ m hm d. not-ready (cascade b p) p m (cascade-quiet p b (log .old) (log .once) m hm) d)
+          (λ x d hx. subst IdleAt
+          (sym (ap₂ (place-of x) (end .cascading .same) (end .cascading .there x d)))
+          (idle x (omega (arith, ap (λ (w : Still). w .ground .size) (end .cascading .same))) d)) r hr;
+      trusted = end .trusted;
     }

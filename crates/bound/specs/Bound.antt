@@ -1,101 +1,27 @@
--- The potential of every reached world is at most the sum of A + 2 × A × A over its messages, A addressees
--- each, so at most 64 × (16 + 512) = 33,792: a multicast adds at most that for its message (the first
--- letters, and two rounds of each addressee), an arrival lowers it by at least one, nothing else raises it.
--- Of any sound world it is at most the sum of A + 4 × A × A: first letters come from the sender only, relays
--- and OKs from addressees. Assumes nothing.
-use mathlib.Core.Path.{_≡_, refl, sym, ap, _∙_, subst}
-use mathlib.Core.Bool.{Bool, true, false}
-use mathlib.Core.List.{List, [], _∷_}
-use mathlib.Core.Logic.{_⊎_, inl, inr, _≢_}
+-- The potential is at most the sum of A + 2 × A × A over the messages, A addressees each, in a world where no
+-- letter in flight may still be sent, as in every reached one: so at most 64 × (16 + 512) = 33,792. In any
+-- sound world it is at most the sum of A + 4 × A × A. For first letters come from the sender only, relays and
+-- OKs from addressees, and all go to addressees. Assumes nothing.
+use mathlib.Core.Path.{_≡_, refl, ap, _∙_}
+use mathlib.Core.Bool.{Bool, true, false, not}
+use mathlib.Core.Logic.{_⊎_, inl, inr}
 use Prim.Native.Nat.{ℕ, zero, suc, _+_, _*_, _≤_, _<_}
 use native.Mathlib.Omega.{arith}
-use native.Mathlib.Nat.{not-suc-le-zero, mul-le-mul}
-use native.Mathlib.Decide.{ℕ-discrete}
-use lib.Dec.{ltb, leb, eqb}
-use borrow.Author.Tests.{eqb-true, eq-eqb, ne-eqb, ltb-true}
-use Rattle.base.specs.Tests.{bool-cases, clash, pick, pick-no, both-r, eqb-refl}
-use Rattle.base.specs.Count.{tally, tally-le, tally-zero, tally-mono}
+use native.Mathlib.Nat.{mul-le-mul}
+use lib.Dec.{ltb, eqb}
+use borrow.Author.Tests.{eqb-true, ne-eqb, lt-ltb}
+use Rattle.base.specs.Tests.{bool-cases, clash, pick, pick-le, both, both-l, both-r, both-i}
+use Rattle.base.specs.Count.{tally, tally-le, tally-zero, tally-cong}
 use Rattle.base.specs.Bits.{bit}
-use Rattle.world.specs.World.{size, count, group, trust, next, held, sender, mask, number, flight, State, put}
-use Rattle.world.specs.Layout.{put-same, put-other}
+use Rattle.world.specs.World.{size, count, sender, flight, State}
 use Rattle.world.specs.Sound.{Sound, frame, sends}
-use Rattle.world.specs.SoundLaws.{size-high, count-high, letter-facts, held-facts}
-use Rattle.world.specs.Setup.{fresh, made, setup-refusal}
-use Rattle.world.specs.Machine.{with-tables, addressed, addressees, raised, stamped, numbered, posted, multicast, leave, mark, arrival, trust-set, crash}
-use Rattle.world.specs.Steps.{Step, multicasts, arrives, loses, trusts, crashes, malformed, read, accepted, step}
-use Rattle.world.specs.StepLaws.{InFlight, accepted-multicast, accepted-arrival, accepted-trust, lowest-moves}
-use Rattle.world.specs.Settle.{lowest}
-use Rattle.world.specs.SettleLaws.{settle-keeps}
-use Rattle.world.specs.History.{Run, Item, given, settling, on-states, taken, tick, settles, act, run}
-use Rattle.keeps.specs.Keeps.{fresh-sound, step-sound}
-use Rattle.effects.specs.Views.{Ground}
-use Rattle.effects.specs.Arrival.{arrived, mark-ground}
-use Rattle.effects.specs.Holding.{sound-letter, arrived-held, trusted-held, chosen-accepted}
-use Rattle.bound.specs.Potential.{sum, sum-mono, addressee-count, owes, Part, in-turn-or-past, part, worth, potential, Lower, lower-then, to-all, leave-lower, leave-falls, mark-lower, trust-lower, crash-lower, hold-lower, cascade-lower}
+use Rattle.world.specs.SoundLaws.{size-high, count-high, letter-facts}
+use Rattle.world.specs.Machine.{addressed}
+use Rattle.effects.specs.Arrival.{Fly}
+use Rattle.effects.specs.Spent.{Spent}
+use Rattle.bound.specs.Potential.{sum, sum-mono, addressee-count, sent, owed, one, cost, from-one, of-kind, of-message, potential, one-no, sends-later, sent-if}
 
--- ---- an arrival: lower everywhere, and lower by one at least where the letter came from
-pub record Arrived (m q : ℕ) (s t : State) : Type 0 where
-  pub lowered : Lower s t
-  pub falls : worth (part t m q) < worth (part s m q)
-
--- of any sound world
-pub arrival-lower : (s : State) (k m q p : ℕ) → Sound s → InFlight s k m q p
-    → Arrived m q s (arrival s k m q p)
-unfolding arrival
-arrival-lower s k m q p h l =
-    let t₁ = leave s k m q p in
-    let t₂ = mark t₁ k m q p in
-    let to-p : addressed t₂ m p ≡ true =
-    ap (λ (g : Ground). bit (g .messages .mask m) (g .group p)) (mark-ground s k m q p)
-    ∙ sound-letter s h k m q p l in
-    let rest = lower-then (mark-lower t₁ k m q p) (lower-then (hold-lower t₂ p m to-p)
-    (cascade-lower (arrived s k m q p) p (arrived-held s h k m q p l))) in
-    record {
-      lowered = lower-then (leave-lower s k m q p) rest;
-      falls = omega (
-        arith,
-        leave-falls s k m q p (l .kind) (l .to) (l .flies),
-        rest .lower m q (omega (arith, l .message, leave-lower s k m q p .same-count))
-            (omega (arith, l .from, leave-lower s k m q p .same-size)),
-      );
-    }
-
--- ---- the bound of one message in a reached world
-abbrev pub ceiling : ℕ → ℕ
-ceiling a = a + 2 * (a * a)
-
--- so of every message
-abbrev pub Bounded : State → Type 0
-Bounded s = (m : ℕ) → m < s count → sum (s size) (λ p. worth (part s m p)) ≤ ceiling (addressee-count s m)
-
--- a change that raises nothing keeps it
-bounded-lower : {s t : State} → Lower s t → Bounded s → Bounded t
-bounded-lower {s} {t} l b m h =
-    let hm : m < s count = omega (arith, l .same-count) in
-    let fewer =
-    sum-mono (s size) (λ p. worth (part t m p)) (λ p. worth (part s m p)) (λ p a. l .lower m p hm a) in
-    subst (λ (n : ℕ). sum n (λ p. worth (part t m p)) ≤ ceiling (addressee-count t m)) (sym (l .same-size))
-    (subst (λ (a : ℕ). sum (s size) (λ p. worth (part t m p)) ≤ ceiling a) (sym (l .same-addressees m))
-    (omega (arith, fewer, b m hm)))
-
--- ---- sums of parts
--- a number at one place, and nothing elsewhere
-sum-none : (n p a : ℕ) → n ≤ p → sum n (λ r. pick (eqb p r) a 0) ≡ 0
-unfolding sum
-sum-none zero p a h = refl
-sum-none (suc n) p a h = rw (ne-eqb p n (omega arith)) (let z = sum-none n p a (omega arith) in omega arith)
-
--- so the sum is at most that number
-sum-one : (n p a : ℕ) → sum n (λ r. pick (eqb p r) a 0) ≤ a
-unfolding sum
-sum-one zero p a = omega arith
-sum-one (suc n) p a = go (eqb p n) refl (sum-one n p a)
-  where
-    go : (b : Bool) → eqb p n ≡ b → sum n (λ r. pick (eqb p r) a 0) ≤ a
-        → sum n (λ r. pick (eqb p r) a 0) + pick b a 0 ≤ a
-    go true e ih = omega (arith, sum-none n p a (let q = eqb-true p n e in omega arith))
-    go false e ih = omega arith
-
+-- ---- sums
 -- a number where a test passes
 sum-passing : (n a : ℕ) (f : ℕ → Bool) → sum n (λ r. pick (f r) a 0) ≡ a * tally n f
 unfolding sum tally
@@ -107,233 +33,169 @@ sum-passing (suc n) a f = go (f n) (sum-passing n a f)
     go true e = omega arith
     go false e = omega arith
 
--- the sum of two
-sum-add : (n : ℕ) (f g h : ℕ → ℕ) → ((i : ℕ) → i < n → h i ≤ f i + g i) → sum n h ≤ sum n f + sum n g
-unfolding sum
-sum-add zero f g h e = omega arith
-sum-add (suc n) f g h e = omega (arith, sum-add n f g h (λ i l. e i (omega arith)), e n (omega arith))
+-- at most one number is x
+tally-one : (n x : ℕ) → tally n (λ q. eqb q x) ≤ 1
+unfolding tally
+tally-one zero x = omega arith
+tally-one (suc n) x = go (eqb n x) refl (tally-one n x)
+  where
+    go : (b : Bool) → eqb n x ≡ b → tally n (λ q. eqb q x) ≤ 1
+        → pick b (suc (tally n (λ q. eqb q x))) (tally n (λ q. eqb q x)) ≤ 1
+    go false e ih = ih
+    go true e ih =
+        let z = tally-zero n (λ q. eqb q x) (λ i l. ne-eqb i x (let d = eqb-true n x e in omega arith)) in
+        omega arith
 
--- the parts of m are at most c at its sender, and c′ at each addressee
-parts-bound : (s : State) (m c c′ q : ℕ)
-    → ((p : ℕ) → p < s size → worth (part s m p) ≤ pick (eqb q p) c 0 + pick (addressed s m p) c′ 0)
-    → sum (s size) (λ p. worth (part s m p)) ≤ c + c′ * addressee-count s m
-parts-bound s m c c′ q h =
-    omega (
-      arith,
-      sum-add (s size) (λ p. pick (eqb q p) c 0) (λ p. pick (addressed s m p) c′ 0) (λ p. worth (part s m p))
-          h,
-      sum-one (s size) q c,
-      sum-passing (s size) c′ (addressed s m),
-    )
+-- a number is at most itself
+le-self : (n : ℕ) → n ≤ n
+le-self n = omega arith
 
--- ---- a multicast
-module _ (s : State) (p groups : ℕ) (h : Sound s) (hc : s count < 64) where
-  -- the state after it
-  abbrev t : State
-  t = multicast s p groups
+-- one is the most
+one-most : (b : Bool) → one b ≤ 1
+one-most b = pick-le b (omega arith) (omega arith)
 
-  -- the parts of the older messages are as they were
-  old-part : (x r : ℕ) → x < s count → part (multicast s p groups) x r ≡ part s x r
-  unfolding multicast posted numbered stamped raised put with-tables
-  old-part x r l = λ j. record {
-    processes = s size;
-    addressees-of = tally (s size) (λ q. bit (same-mask j) (s (group q)));
-    to = bit (same-mask j) (s (group r));
-    holds = eqb (s (held r x)) 1;
-    near = leb (same-number j) (s (next r (same-sender j)));
-    firsts = same-flight 0 j;
-    relays = same-flight 1 j;
-    oks = same-flight 2 j;
-  }
-    where
-      apart : s count ≢ x
-      apart = omega arith
+-- ---- the letters of a message in a sound world
+module _ (s : State) (h : Sound s) (m : ℕ) (hm : m < s count) where
+  -- the letter of kind k from q to u is one that may be
+  abbrev may : ℕ → ℕ → ℕ → Bool
+  may k q u = both (sends (frame s) m k q) (addressed s m u)
 
-      same-mask : multicast s p groups (mask x) ≡ s (mask x)
-      same-mask = put-other s (mask (s count)) (mask x) groups (λ e. apart (cc))
-
-      same-sender : multicast s p groups (sender x) ≡ s (sender x)
-      same-sender = put-other s (sender (s count)) (sender x) p (λ e. apart (cc))
-
-      same-number : multicast s p groups (number x (s (group r))) ≡ s (number x (s (group r)))
-      same-number = pick-no _ (s (number x (s (group r)))) (ne-eqb (s count) x apart)
-
-      same-flight : (k : ℕ) → multicast s p groups (flight x k r) ≡ s (flight x k r)
-      same-flight k =
-          put-other s (flight (s count) 0 p) (flight x k r) (addressees (multicast s p groups) (s count))
-          (λ e. apart (cc))
-
-  -- no letter of the new message was in flight, and nobody held it
-  no-letter : (k r : ℕ) → k < 3 → r < s size → tally (s size) (bit (s (flight (s count) k r))) ≡ 0
-  no-letter k r hk hr =
-      tally-zero (s size) (bit (s (flight (s count) k r)))
-      (λ u l. none u l (bool-cases (bit (s (flight (s count) k r)) u)))
-    where
-      none : (u : ℕ) → u < s size
-          → (bit (s (flight (s count) k r)) u ≡ true) ⊎ (bit (s (flight (s count) k r)) u ≡ false)
-          → bit (s (flight (s count) k r)) u ≡ false
-      none u l (inr e) = e
-      none u l (inl e) =
-          let f =
-          letter-facts s h k (s count) r u hk hc (omega (arith, size-high s h))
-          (omega (arith, size-high s h)) e in
-          absurd (omega (arith, ltb-true (s count) (s count) (f .of)))
-
-  -- nobody holds it
-  not-held : (r : ℕ) → r < s size → s (held r (s count)) ≢ 1
-  not-held r hr e =
-      let f = held-facts s h r (s count) (omega (arith, size-high s h)) hc (omega arith) in
-      absurd (omega (arith, ltb-true (s count) (s count) (f .of)))
-
-  -- the new message: first letters from p, two rounds of each addressee
-  new-part : (r : ℕ) → r < s size → worth (part (multicast s p groups) (s count) r)
-      ≤ pick (eqb p r) (addressee-count (multicast s p groups) (s count)) 0
-      + pick (addressed (multicast s p groups) (s count) r)
-      (2 * addressee-count (multicast s p groups) (s count)) 0
-  unfolding multicast posted numbered stamped raised put with-tables worth
-  new-part r hr =
+  -- any other costs nothing
+  no-cost : (k q u : ℕ) → k < 3 → q < s size → u < s size → may k q u ≡ false → cost s k m q u ≡ 0
+  unfolding cost
+  no-cost k q u hk hq hu z =
       omega (
         arith,
-        first (ℕ-discrete p r),
-        other 1 (omega arith) (omega arith),
-        other 2 (omega arith) (omega arith),
-        rest (addressed (multicast s p groups) (s count) r) (eqb (s (held r (s count))) 1) refl,
+        one-no (fails flies (bool-cases (bit (s (flight m k q)) u))),
+        one-no (fails (owes k hk) (bool-cases (owed s k m q u))),
       )
     where
-      a : ℕ
-      a = addressee-count (multicast s p groups) (s count)
+      fails : {b : Bool} → (b ≡ true → may k q u ≡ true) → (b ≡ true) ⊎ (b ≡ false) → b ≡ false
+      fails f (inl e) = clash (f e) z
+      fails f (inr e) = e
 
-      kept : (k : ℕ) → k < 3 → flight (s count) 0 p ≢ flight (s count) k r
-          → tally (s size) (bit (multicast s p groups (flight (s count) k r))) ≡ 0
-      kept k hk n =
-          ap (λ (v : ℕ). tally (s size) (bit v))
-          (put-other s (flight (s count) 0 p) (flight (s count) k r)
-          (addressees (multicast s p groups) (s count)) n)
-          ∙ no-letter k r hk hr
+      flies : bit (s (flight m k q)) u ≡ true → may k q u ≡ true
+      flies e =
+          let d = letter-facts s h k m q u hk (omega (arith, count-high s h)) (omega (arith, size-high s h))
+          (omega (arith, size-high s h)) e in
+          both-i (sends (frame s) m k q) (addressed s m u) (d .from)
+          (both-r (ltb u (s size)) (addressed s m u) (d .to))
 
-      other : (k : ℕ) → k < 3 → _≢_ {A = ℕ} 0 k
-          → tally (s size) (bit (multicast s p groups (flight (s count) k r))) ≡ 0
-      other k hk n = kept k hk (λ e. n (cc))
+      owes : (j : ℕ) → j < 3 → owed s j m q u ≡ true → may j q u ≡ true
+      owes zero l e = clash {b = false} e refl
+      owes (suc j) l e =
+          let d = both-r (not (sent s (suc j) m q)) (both (addressed s m q) (addressed s m u)) e in
+          both-i (sends (frame s) m (suc j) q) (addressed s m u)
+          (sends-later s m j q
+          ∙ both-i (ltb q (s size)) (addressed s m q) (lt-ltb q (s size) hq)
+          (both-l (addressed s m q) (addressed s m u) d)) (both-r (addressed s m q) (addressed s m u) d)
 
-      first : Dec (p ≡ r) → tally (s size) (bit (multicast s p groups (flight (s count) 0 r)))
-          ≤ pick (eqb p r) (addressee-count (multicast s p groups) (s count)) 0
-      first (no n) = omega (arith, kept 0 (omega arith) (λ e. n (cc)))
-      first (yes q) =
-          subst (λ (x : ℕ). tally (s size) (bit (multicast s p groups (flight (s count) 0 x)))
-          ≤ pick (eqb p x) (addressee-count (multicast s p groups) (s count)) 0) q
-          (rw (eqb-refl p) (omega (
-            arith,
-            ap (λ (v : ℕ). tally (s size) (bit v))
-                (put-same s (flight (s count) 0 p) (flight (s count) 0 p)
-                (addressees (multicast s p groups) (s count)) refl),
-            to-all (multicast s p groups) (s count),
-          )))
+  -- at most c each: so many of a kind
+  module _ (k c : ℕ) (hk : k < 3)
+      (few : (q u : ℕ) → q < s size → u < s size → cost s k m q u ≤ c) where
+    -- from one origin
+    from-few : (q : ℕ) → q < s size
+        → from-one (s size) s m k q ≤ pick (sends (frame s) m k q) (c * addressee-count s m) 0
+    from-few q hq = go (sends (frame s) m k q) refl
+      where
+        each : (b : Bool) → sends (frame s) m k q ≡ b → (u : ℕ) → u < s size
+            → cost s k m q u ≤ pick (both b (addressed s m u)) c 0
+        each b e u hu = one (both b (addressed s m u)) refl
+          where
+            one : (d : Bool) → both b (addressed s m u) ≡ d → cost s k m q u ≤ pick d c 0
+            one true z = few q u hq hu
+            one false z =
+                omega (arith, no-cost k q u hk hq hu (ap (λ (x : Bool). both x (addressed s m u)) e ∙ z))
 
-      rest : (to holds : Bool) → eqb (s (held r (s count))) 1 ≡ holds
-          → owes (addressee-count (multicast s p groups) (s count)) to holds
-          (in-turn-or-past (multicast s p groups) (s count) r)
-          ≤ pick to (2 * addressee-count (multicast s p groups) (s count)) 0
-      rest false holds e = omega arith
-      rest true false e = omega arith
-      rest true true e = absurd (not-held r hr (eqb-true (s (held r (s count))) 1 e))
+        go : (b : Bool) → sends (frame s) m k q ≡ b
+            → from-one (s size) s m k q ≤ pick b (c * addressee-count s m) 0
+        go true e =
+            omega (
+              arith,
+              sum-mono (s size) (cost s k m q) (λ u. pick (addressed s m u) c 0) (each true e),
+              sum-passing (s size) c (addressed s m),
+            )
+        go false e =
+            omega (
+              arith,
+              sum-mono (s size) (cost s k m q) (λ u. pick true 0 0) (each false e),
+              sum-passing (s size) 0 (λ u. true),
+            )
 
-  -- the number of processes
-  multicast-size : multicast s p groups size ≡ s size
-  unfolding multicast posted numbered stamped raised put with-tables
-  multicast-size = refl
+    -- from all of them
+    kind-few : of-kind (s size) s m k ≤ c * addressee-count s m * tally (s size) (sends (frame s) m k)
+    kind-few =
+        omega (
+          arith,
+          sum-mono (s size) (from-one (s size) s m k)
+              (λ q. pick (sends (frame s) m k q) (c * addressee-count s m) 0) from-few,
+          sum-passing (s size) (c * addressee-count s m) (sends (frame s) m k),
+        )
 
-  -- the count
-  multicast-count : multicast s p groups count ≡ s count + 1
-  unfolding multicast posted numbered stamped raised put with-tables
-  multicast-count = refl
+  -- first letters: A at most
+  firsts : of-kind (s size) s m 0 ≤ addressee-count s m
+  unfolding cost sends
+  firsts =
+      omega (
+        arith,
+        kind-few 0 1 (omega arith) (λ q u _ _. omega (arith, one-most (bit (s (flight m 0 q)) u))),
+        mul-le-mul (le-self (addressee-count s m)) (tally-one (s size) (s (sender m))),
+      )
 
-  -- the bound holds of the new message too
-  bounded-multicast : Bounded s → Bounded (multicast s p groups)
-  bounded-multicast b m hm = go (ℕ-discrete (s count) m)
-    where
-      go : Dec (s count ≡ m) → sum (multicast s p groups size) (λ r. worth (part (multicast s p groups) m r))
-          ≤ ceiling (addressee-count (multicast s p groups) m)
-      go (no n) =
-          let l : m < s count = omega (arith, multicast-count) in
-          let fewer =
-          sum-mono (s size) (λ r. worth (part (multicast s p groups) m r)) (λ r. worth (part s m r))
-          (λ r _. omega (arith, ap worth (old-part m r l))) in
-          subst
-          (λ (k : ℕ). sum k (λ r. worth (part (multicast s p groups) m r))
-          ≤ ceiling (addressee-count (multicast s p groups) m))
-          (sym multicast-size)
-          (subst (λ (a : ℕ). sum (s size) (λ r. worth (part (multicast s p groups) m r)) ≤ ceiling a)
-          (sym (ap (λ (c : Part). c .addressees-of) (old-part m 0 l))) (omega (arith, fewer, b m l)))
-      go (yes e) =
-          subst (λ (x : ℕ). sum (multicast s p groups size) (λ r. worth (part (multicast s p groups) x r))
-          ≤ ceiling (addressee-count (multicast s p groups) x)) e
-          (let a : ℕ = addressee-count (multicast s p groups) (s count) in
-          omega (
-            arith,
-            parts-bound (multicast s p groups) (s count) a (2 * a) p
-                (λ r l. new-part r (omega (arith, multicast-size))),
-          ))
+  -- relays, and OKs: A × A times what each is worth at most
+  laters : (j c : ℕ) → suc j < 3
+      → ((q u : ℕ) → q < s size → u < s size → cost s (suc j) m q u ≤ c)
+      → of-kind (s size) s m (suc j) ≤ c * (addressee-count s m * addressee-count s m)
+  laters j c hj few =
+      omega (
+        arith,
+        kind-few (suc j) c hj few,
+        ap (λ (n : ℕ). c * addressee-count s m * n)
+            (tally-cong (s size) (sends (frame s) m (suc j)) (addressed s m)
+            (λ q l. sends-later s m j q ∙ rw (lt-ltb q (s size) l))),
+      )
 
--- ---- every step and every run
-pub record Kept (s : State) : Type 0 where
-  pub sound : Sound s
-  pub bounded : Bounded s
+  -- all of them
+  message-few : (c : ℕ) → ((k q u : ℕ) → q < s size → u < s size → cost s k m q u ≤ c)
+      → of-message (s size) s m ≤ addressee-count s m + 2 * (c * (addressee-count s m * addressee-count s m))
+  unfolding sum
+  message-few c few =
+      omega (arith, firsts, laters 0 c (omega arith) (few 1), laters 1 c (omega arith) (few 2))
 
--- an accepted step keeps the bound
-step-bounded : (s : State) (x : Step) → accepted s x ≡ true → Sound s → Bounded s → Bounded (step s x)
-unfolding step trust-set crash
-step-bounded s (multicasts p groups) e h b =
-    bounded-multicast s p groups h (accepted-multicast s p groups e .room) b
-step-bounded s (arrives k m q p) e h b =
-    bounded-lower (arrival-lower s k m q p h (accepted-arrival s k m q p e .letter) .lowered) b
-step-bounded s (loses k m q p) e h b = bounded-lower (leave-lower s k m q p) b
-step-bounded s (trusts p set) e h b =
-    bounded-lower (lower-then (trust-lower s p set)
-    (cascade-lower (put s (trust p) set) p (trusted-held s h p set (accepted-trust s p set e .process)))) b
-step-bounded s (crashes p) e h b = bounded-lower (crash-lower s p) b
-step-bounded s malformed e h b = b
+-- ---- the bound of one message in a reached world
+abbrev pub ceiling : ℕ → ℕ
+ceiling a = a + 2 * (a * a)
 
--- and soundness
-pub kept-step : (s : State) (x : Step) → accepted s x ≡ true → Kept s → Kept (step s x)
-kept-step s x e k = record {
-  sound = step-sound s x e (k .sound);
-  bounded = step-bounded s x e (k .sound) (k .bounded);
-}
-
--- a fresh world has no message
-pub kept-made : (setup : List ℕ) → setup-refusal setup ≡ 0 → Kept (made setup)
-unfolding made fresh
-kept-made setup ok = record { sound = fresh-sound setup ok; bounded = λ m h. absurd (not-suc-le-zero h) }
-
--- an item
-kept-act : (r : Run State) (i : Item) → Kept (r .now) → Kept (act on-states r i .now)
-unfolding act tick settles
-kept-act r (given bytes) k = go (accepted (r .now) (read bytes)) refl
-  where
-    go : (b : Bool) → accepted (r .now) (read bytes) ≡ b
-        → Kept (pick b (taken on-states r (read bytes)) r .now)
-    go true e = kept-step (r .now) (read bytes) e k
-    go false e = k
-kept-act r (settling b) k =
-    settle-keeps (λ t. lowest (t .now)) (λ t k m q p. taken on-states t (arrives k m q p))
-    (λ t. Kept (t .now))
-    (λ t k m q p e z. kept-step (t .now) (arrives k m q p)
-    (chosen-accepted (t .now) k m q p (lowest-moves (t .now) k m q p e)) z) b 0 r k
-
--- a list
-pub kept-run : (r : Run State) (items : List Item) → Kept (r .now) → Kept (run on-states r items .now)
-unfolding run
-kept-run r [] k = k
-kept-run r (i ∷ items) k = kept-run (act on-states r i) items (kept-act r i k)
-
--- ---- the sums
--- the potential of a reached world: at most the sum of A + 2 × A × A
-pub reached-potential : (s : State) → Bounded s
+-- the potential of a world in which what flies cannot be sent again: at most the sum of A + 2 × A × A
+pub reached-potential : (s : State) → Sound s → ((k m q u : ℕ) → Fly s m k q u → Spent s k m q)
     → potential s ≤ sum (s count) (λ m. ceiling (addressee-count s m))
-unfolding potential
-reached-potential s b =
-    sum-mono (s count) (λ m. sum (s size) (λ p. worth (part s m p))) (λ m. ceiling (addressee-count s m))
-    (λ m h. b m h)
+unfolding potential cost
+reached-potential s h spent =
+    sum-mono (s count) (of-message (s size) s) (λ m. ceiling (addressee-count s m))
+    (λ m hm. omega (arith, message-few s h m hm 1 (λ k q u _ _. once k m q u (bool-cases (bit (s (flight m k q)) u)))))
+  where
+    once : (k m q u : ℕ) → (bit (s (flight m k q)) u ≡ true) ⊎ (bit (s (flight m k q)) u ≡ false)
+        → one (bit (s (flight m k q)) u) + one (owed s k m q u) ≤ 1
+    once k m q u (inr e) = omega (arith, one-no e, one-most (owed s k m q u))
+    once k m q u (inl e) =
+        let gone : owed s k m q u ≡ false = rw (sent-if s k m q (spent k m q u e .1)) in
+        omega (arith, one-no gone, one-most (bit (s (flight m k q)) u))
+
+-- of any sound world: at most the sum of A + 4 × A × A
+pub sound-potential : (s : State) → Sound s
+    → potential s ≤ sum (s count) (λ m. addressee-count s m + 4 * (addressee-count s m * addressee-count s m))
+unfolding potential cost
+sound-potential s h =
+    sum-mono (s count) (of-message (s size) s)
+    (λ m. addressee-count s m + 4 * (addressee-count s m * addressee-count s m))
+    (λ m hm. omega (
+      arith,
+      message-few s h m hm 2 (λ k q u _ _. omega (
+        arith,
+        one-most (bit (s (flight m k q)) u),
+        one-most (owed s k m q u),
+      )),
+    ))
 
 -- 64 messages of at most 16 addressees
 sum-most : (n c : ℕ) (f : ℕ → ℕ) → ((i : ℕ) → i < n → f i ≤ c) → sum n f ≤ n * c
@@ -349,94 +211,3 @@ ceiling-most s h =
     let few : addressee-count s m ≤ 16 = omega (arith, size-high s h) in
     omega (arith, mul-le-mul few few)) in
     omega (arith, each, count-high s h)
-
--- ---- any sound world: at most the sum of A + 4 × A × A
--- a kind of letters of m from p goes to addressees only
-to-addressees : (s : State) → Sound s → (k m p : ℕ) → k < 3 → m < s count → p < s size
-    → tally (s size) (bit (s (flight m k p))) ≤ addressee-count s m
-to-addressees s h k m p hk hm hp = tally-mono (s size) (addressed s m) (bit (s (flight m k p))) (λ u l e.
-    both-r (ltb u (s size)) (addressed s m u)
-    (letter-facts s h k m p u hk (omega (arith, count-high s h)) (omega (arith, size-high s h))
-    (omega (arith, size-high s h)) e .to))
-
--- the part of p in a sound world
-sound-part : (s : State) → Sound s → (m p : ℕ) → m < s count → p < s size
-    → worth (part s m p)
-    ≤ pick (eqb (s (sender m)) p) (addressee-count s m) 0 + pick (addressed s m p)
-    (4 * addressee-count s m) 0
-unfolding worth sends
-sound-part s h m p hm hp =
-    omega (
-      arith,
-      firsts (eqb (s (sender m)) p) refl,
-      others (addressed s m p) refl (eqb (s (held p m)) 1)
-          (in-turn-or-past s m p),
-    )
-  where
-    a : ℕ
-    a = addressee-count s m
-
-    -- no letter of a kind that p does not send
-    silent : (k : ℕ) → k < 3 → ((u : ℕ) → u < s size → bit (s (flight m k p)) u ≡ true → ⊥)
-        → tally (s size) (bit (s (flight m k p))) ≡ 0
-    silent k hk n =
-        tally-zero (s size) (bit (s (flight m k p))) (λ u l. go u l (bool-cases (bit (s (flight m k p)) u)))
-      where
-        go : (u : ℕ) → u < s size → (bit (s (flight m k p)) u ≡ true) ⊎ (bit (s (flight m k p)) u ≡ false)
-            → bit (s (flight m k p)) u ≡ false
-        go u l (inr e) = e
-        go u l (inl e) = absurd (n u l e)
-
-    from : (k u : ℕ) → k < 3 → u < s size → bit (s (flight m k p)) u ≡ true → sends (frame s) m k p ≡ true
-    from k u hk hu e =
-        letter-facts s h k m p u hk (omega (arith, count-high s h)) (omega (arith, size-high s h))
-        (omega (arith, size-high s h)) e .from
-
-    firsts : (b : Bool) → eqb (s (sender m)) p ≡ b
-        → tally (s size) (bit (s (flight m 0 p))) ≤ pick b (addressee-count s m) 0
-    firsts true e = to-addressees s h 0 m p (omega arith) hm hp
-    firsts false e = omega (arith, silent 0 (omega arith) (λ u l z. first-only u l z))
-      where
-        sender-only : (u : ℕ) → u < s size → bit (s (flight m 0 p)) u ≡ true → p ≡ s (sender m)
-        sender-only u l z = eqb-true p (s (sender m)) (from 0 u (omega arith) l z)
-
-        first-only : (u : ℕ) → u < s size → bit (s (flight m 0 p)) u ≡ true → ⊥
-        first-only u l z = clash (eq-eqb (s (sender m)) p (sym (sender-only u l z))) e
-
-    others : (b : Bool) → addressed s m p ≡ b → (holds near : Bool)
-        → tally (s size) (bit (s (flight m 1 p))) + tally (s size) (bit (s (flight m 2 p))) + owes
-        (addressee-count s m) b holds near
-        ≤ pick b (4 * addressee-count s m) 0
-    others false e holds near =
-        omega (
-          arith,
-          silent 1 (omega arith)
-              (λ u l z. clash (both-r (ltb p (s size)) (addressed s m p) (from 1 u (omega arith) l z)) e),
-          silent 2 (omega arith)
-              (λ u l z. clash (both-r (ltb p (s size)) (addressed s m p) (from 2 u (omega arith) l z)) e),
-        )
-    others true e holds near =
-        omega (
-          arith,
-          to-addressees s h 1 m p (omega arith) hm hp,
-          to-addressees s h 2 m p (omega arith) hm hp,
-          rounds holds near,
-        )
-      where
-        rounds : (holds near : Bool) → owes (addressee-count s m) true holds near ≤ 2 * addressee-count s m
-        rounds true true = omega arith
-        rounds true false = omega arith
-        rounds false near = omega arith
-
--- the potential of any sound world
-pub sound-potential : (s : State) → Sound s
-    → potential s ≤ sum (s count) (λ m. addressee-count s m + 4 * (addressee-count s m * addressee-count s m))
-unfolding potential
-sound-potential s h =
-    sum-mono (s count) (λ m. sum (s size) (λ p. worth (part s m p)))
-    (λ m. addressee-count s m + 4 * (addressee-count s m * addressee-count s m))
-    (λ m hm. omega (
-      arith,
-      parts-bound s m (addressee-count s m) (4 * addressee-count s m) (s (sender m))
-          (λ p l. sound-part s h m p hm l),
-    ))

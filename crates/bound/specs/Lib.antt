@@ -1,3 +1,4 @@
+pub mod Once
 pub mod Potential
 pub mod Bound
 pub mod Settle

@@ -1,27 +1,28 @@
--- The potential of a world: the letters in flight, and for each message and addressee what the addressee may
--- still send of it: two rounds of letters to all A addressees before it holds the message, one while it holds
--- it out of turn, none after. A letter that leaves lowers it by one; a message held, and a FIFO delivery with
--- its OKs, raise it nowhere. Assumes nothing.
+-- The potential of a world: for each message, kind, origin and receiver one if the letter is in flight, and
+-- one if it may still be sent: from an addressee to an addressee, a relay while its origin does not hold the
+-- message, an OK while its origin does not hold it in turn or past it. What is sent was not sent before and is
+-- now (Once), so that no step but a multicast raises the potential; an arrival lowers it by one at least.
+-- Assumes nothing.
 use mathlib.Core.Path.{_≡_, refl, sym, ap, ap₂, _∙_, subst, subst₂}
-use mathlib.Core.Bool.{Bool, true, false}
-use mathlib.Core.Logic.{_⊎_, inl, inr, _≢_}
-use Prim.Native.Nat.{ℕ, zero, suc, _+_, _*_, _-_, _≤_, _<_}
+use mathlib.Core.Bool.{Bool, true, false, not}
+use mathlib.Core.Logic.{_⊎_, inl, inr}
+use Prim.Native.Nat.{ℕ, zero, suc, _+_, _≤_, _<_}
 use native.Mathlib.Omega.{arith}
 use native.Mathlib.Nat.{not-suc-le-zero}
 use native.Mathlib.Decide.{ℕ-discrete}
-use lib.Dec.{leb, eqb}
-use borrow.Author.Tests.{leb-true, le-leb, lt-leb, eq-eqb, ne-eqb}
-use Rattle.base.specs.Tests.{clash, pick}
-use Rattle.base.specs.Count.{tally, tally-cong, tally-mono, tally-falls}
-use Rattle.base.specs.Loop.{loop-keeps}
-use Rattle.base.specs.Bits.{bit, without, without-hit, bit-mask-of}
-use Rattle.world.specs.World.{size, count, group, trust, up, fifo-length, next, held, sender, mask, number, flight, State, put}
-use Rattle.world.specs.Layout.{put-same, put-other}
-use Rattle.world.specs.Machine.{addressed, addressees, in-turn, ready, fifo-one, cascade, leave, mark, hold}
-use Rattle.effects.specs.Views.{ground, Still, still}
-use Rattle.effects.specs.Cascade.{NewOk, letter-cases, fifo-one-still, near-on, ok-far, ok-near}
-use Rattle.effects.specs.Arrival.{hold-cases, mark-cases, holding, leave-less}
-use Rattle.effects.specs.Holding.{HeldTo, held-to}
+use lib.Dec.{ltb, leb, eqb}
+use borrow.Author.Tests.{eqb-true, eq-eqb, ne-eqb, leb-true, le-leb, not-true}
+use Rattle.base.specs.Tests.{bool-cases, clash, pick, pick-no, both, both-l, both-r, both-i}
+use Rattle.base.specs.Count.{tally}
+use Rattle.base.specs.Bits.{bit, without, without-hit}
+use Rattle.world.specs.World.{size, count, group, next, held, sender, number, flight, State, put}
+use Rattle.world.specs.Layout.{put-same}
+use Rattle.world.specs.Sound.{Sound, frame, sends}
+use Rattle.world.specs.SoundLaws.{size-high, count-high, letter-facts}
+use Rattle.world.specs.Machine.{addressed, leave}
+use Rattle.effects.specs.Views.{Ground, ground}
+use Rattle.effects.specs.Arrival.{Fly}
+use Rattle.effects.specs.Spent.{SentBy, Spent, Once, spent-on}
 
 -- ---- sums
 unfoldable pub sum : ℕ → (ℕ → ℕ) → ℕ
@@ -52,413 +53,182 @@ sum-falls (suc n) f g h j l e = go (ℕ-discrete j n) (λ k. sum-falls n f g (λ
 abbrev pub addressee-count : State → ℕ → ℕ
 addressee-count s m = tally (s size) (addressed s m)
 
--- what a process may still send: to whom it is addressed, whether it holds it, whether it is in turn or past
--- it
-abbrev pub owes : ℕ → Bool → Bool → Bool → ℕ
-owes a false holds near = 0
-owes a true false near = 2 * a
-owes a true true false = a
-owes a true true true = 0
+-- the letter of kind k for m from q cannot be sent any more (SentBy, as a test)
+abbrev pub sent : State → ℕ → ℕ → ℕ → Bool
+sent s zero m q = true
+sent s (suc zero) m q = eqb (s (held q m)) 1
+sent s (suc (suc k)) m q =
+    both (eqb (s (held q m)) 1) (leb (s (number m (s (group q)))) (s (next q (s (sender m)))))
 
--- what the part of p in m's letters looks at
-pub record Part : Type 0 where
-  pub processes : ℕ
-  pub addressees-of : ℕ
-  pub to : Bool
-  pub holds : Bool
-  pub near : Bool
-  pub firsts : ℕ
-  pub relays : ℕ
-  pub oks : ℕ
+-- q may still send the letter to u
+abbrev pub owed : State → ℕ → ℕ → ℕ → ℕ → Bool
+owed s k m q u = both (not (sent s k m q)) (both (addressed s m q) (addressed s m u))
 
--- m is in turn at p, or past it
-abbrev pub in-turn-or-past : State → ℕ → ℕ → Bool
-in-turn-or-past s m p = leb (s (number m (s (group p)))) (s (next p (s (sender m))))
+-- one where a test passes
+abbrev pub one : Bool → ℕ
+one b = pick b 1 0
 
--- the part of p in the letters of m
-abbrev pub part : State → ℕ → ℕ → Part
-part s m p = record {
-  processes = s size;
-  addressees-of = addressee-count s m;
-  to = addressed s m p;
-  holds = eqb (s (held p m)) 1;
-  near = in-turn-or-past s m p;
-  firsts = s (flight m 0 p);
-  relays = s (flight m 1 p);
-  oks = s (flight m 2 p);
-}
+-- the letter in flight, and what may still be sent of it
+unfoldable pub cost : State → ℕ → ℕ → ℕ → ℕ → ℕ
+cost s k m q u = one (bit (s (flight m k q)) u) + one (owed s k m q u)
 
--- the letters of m from p in flight, and what p may still send of m
-unfoldable pub worth : Part → ℕ
-worth c =
-    tally (c .processes) (bit (c .firsts)) + tally (c .processes) (bit (c .relays)) + tally (c .processes)
-    (bit (c .oks))
-    + owes (c .addressees-of) (c .to) (c .holds) (c .near)
+-- of n processes: over the receivers; over the origins; over the kinds; over c messages
+abbrev pub from-one : ℕ → State → ℕ → ℕ → ℕ → ℕ
+from-one n s m k q = sum n (cost s k m q)
 
--- over all messages and processes
+abbrev pub of-kind : ℕ → State → ℕ → ℕ → ℕ
+of-kind n s m k = sum n (from-one n s m k)
+
+abbrev pub of-message : ℕ → State → ℕ → ℕ
+of-message n s m = sum 3 (of-kind n s m)
+
 unfoldable pub potential : State → ℕ
-potential s = sum (s count) (λ m. sum (s size) (λ p. worth (part s m p)))
+potential s = sum (s count) (of-message (s size) s)
 
--- ---- a change that raises it nowhere
-pub record Lower (s t : State) : Type 0 where
-  pub same-size : t size ≡ s size
-  pub same-count : t count ≡ s count
-  pub same-addressees : (m : ℕ) → addressee-count t m ≡ addressee-count s m
-  pub lower : (m p : ℕ) → m < s count → p < s size → worth (part t m p) ≤ worth (part s m p)
+-- a relay or an OK comes from an addressee
+pub sends-later : (s : State) (m j q : ℕ)
+    → sends (frame s) m (suc j) q ≡ both (ltb q (s size)) (addressed s m q)
+unfolding sends
+sends-later s m j q = pick-no _ _ (ne-eqb (suc j) 0 (omega arith))
 
--- no change at all
-pub lower-self : (s : State) → Lower s s
-lower-self s = record {
-  same-size = refl;
-  same-count = refl;
-  same-addressees = λ m. refl;
-  lower = λ m p _ _. omega arith;
-}
+-- ---- the test, and what it says
+pub sent-if : (s : State) (k m q : ℕ) → SentBy s k m q → sent s k m q ≡ true
+sent-if s zero m q x = refl
+sent-if s (suc zero) m q x = eq-eqb (s (held q m)) 1 x
+sent-if s (suc (suc k)) m q x =
+    both-i (eqb (s (held q m)) 1) _ (eq-eqb (s (held q m)) 1 (x .0))
+    (le-leb (s (number m (s (group q)))) (s (next q (s (sender m)))) (x .1))
 
--- one change after another
-pub lower-then : {s t u : State} → Lower s t → Lower t u → Lower s u
-lower-then {s} {t} {u} a b = record {
-  same-size = b .same-size ∙ a .same-size;
-  same-count = b .same-count ∙ a .same-count;
-  same-addressees = λ m. b .same-addressees m ∙ a .same-addressees m;
-  lower =
-      λ m p hm hp. omega (
-        arith,
-        a .lower m p hm hp,
-        b .lower m p (omega (arith, a .same-count))
-            (omega (arith, a .same-size)),
-      );
-}
+-- the other way round
+if-sent : (s : State) (k m q : ℕ) → sent s k m q ≡ true → SentBy s k m q
+if-sent s zero m q x = tt
+if-sent s (suc zero) m q x = eqb-true (s (held q m)) 1 x
+if-sent s (suc (suc k)) m q x =
+    let near : Bool = leb (s (number m (s (group q)))) (s (next q (s (sender m)))) in (
+      eqb-true (s (held q m)) 1 (both-l (eqb (s (held q m)) 1) near x),
+      leb-true (s (number m (s (group q)))) (s (next q (s (sender m))))
+          (both-r (eqb (s (held q m)) 1) near x),
+    )
 
--- and lower at one place lowers it
-pub potential-falls : {s t : State} → Lower s t → (m p : ℕ) → m < s count → p < s size
-    → worth (part t m p) < worth (part s m p) → potential t < potential s
-unfolding potential
-potential-falls {s} {t} l m p hm hp e =
-    subst₂
-    (λ (c n : ℕ). sum c (λ x. sum n (λ r. worth (part t x r)))
-    < sum (s count) (λ x. sum (s size) (λ r. worth (part s x r))))
-    (sym (l .same-count)) (sym (l .same-size))
-    (sum-falls (s count) (λ x. sum (s size) (λ r. worth (part t x r)))
-    (λ x. sum (s size) (λ r. worth (part s x r)))
-    (λ x h. sum-mono (s size) (λ r. worth (part t x r)) (λ r. worth (part s x r)) (λ r a. l .lower x r h a)) m
-    hm
-    (sum-falls (s size) (λ r. worth (part t m r)) (λ r. worth (part s m r)) (λ r a. l .lower m r hm a) p hp
-    e))
+-- ---- a change that sends no letter twice raises no letter's part
+-- where it passes, and where it fails
+one-yes : {b : Bool} → b ≡ true → one b ≡ 1
+one-yes e = rw e
 
--- all addressees get a letter: A of them
-pub to-all : (s : State) (m : ℕ) → tally (s size) (bit (addressees s m)) ≡ addressee-count s m
-to-all s m =
-    tally-cong (s size) (bit (addressees s m)) (addressed s m)
-    (λ i h. bit-mask-of (s size) (addressed s m) i h)
+pub one-no : {b : Bool} → b ≡ false → one b ≡ 0
+one-no e = rw e
 
--- who is in turn owes less
-owes-near : (a : ℕ) (t h y y′ : Bool) → (y ≡ true → y′ ≡ true) → owes a t h y′ ≤ owes a t h y
-owes-near a false h y y′ e = omega arith
-owes-near a true false y y′ e = omega arith
-owes-near a true true true true e = omega arith
-owes-near a true true true false e = clash (e refl) refl
-owes-near a true true false true e = omega arith
-owes-near a true true false false e = omega arith
+-- a passes only where b does
+one-le : (a b : Bool) → (a ≡ true → b ≡ true) → one a ≤ one b
+one-le false b f = omega arith
+one-le true b f = omega (arith, one-yes (f refl))
 
--- ---- a letter leaves
-module _ (s : State) (k m q p : ℕ) where
-  -- no more letters of a kind fly
-  fewer : (x j r : ℕ)
-      → tally (s size) (bit (leave s k m q p (flight x j r))) ≤ tally (s size) (bit (s (flight x j r)))
-  fewer x j r =
-      tally-mono (s size) (bit (s (flight x j r))) (bit (leave s k m q p (flight x j r)))
-      (λ u _ e. leave-less s k m q p x j r u e)
+-- a letter that flies now flew before, or was owed and is no more
+costs : (fly fly′ owes owes′ : Bool) → (owes′ ≡ true → owes ≡ true)
+    → (fly′ ≡ true → (fly ≡ true) ⊎ ((owes ≡ true) × (owes′ ≡ false)))
+    → one fly′ + one owes′ ≤ one fly + one owes
+costs fly false owes owes′ f g = omega (arith, one-le owes′ owes f)
+costs fly true owes owes′ f g = elim (g refl) [
+  | inl x ↦ omega (arith, one-yes x, one-le owes′ owes f)
+  | inr x ↦ omega (arith, one-yes (x .0), one-no (x .1))
+]
 
-  -- it raises nothing
-  pub leave-lower : Lower s (leave s k m q p)
-  unfolding leave put worth
-  leave-lower = record {
-    same-size = refl;
-    same-count = refl;
-    same-addressees = λ x. refl;
-    lower = λ x r _ _. omega (arith, fewer x 0 r, fewer x 1 r, fewer x 2 r);
-  }
+module _ {s t : State} (o : Once s t) (e : ground t ≡ ground s) (h : Sound t) where
+  -- the addressees are the same
+  to-same : (m r : ℕ) → addressed t m r ≡ addressed s m r
+  to-same m r = ap (λ (g : Ground). bit (g .messages .mask m) (g .group r)) e
 
-  module _ (hk : k < 3) (hp : p < s size) (f : bit (s (flight m k q)) p ≡ true) where
-    gone : bit (leave s k m q p (flight m k q)) p ≡ false
-    unfolding leave
-    gone =
-        ap (λ (v : ℕ). bit v p) (put-same s (flight m k q) (flight m k q) (without (s (flight m k q)) p) refl)
-        ∙ without-hit (s (flight m k q)) p
-
-    -- one less of its kind
-    one-less : (j : ℕ) → k ≡ j
-        → tally (s size) (bit (leave s k m q p (flight m j q))) < tally (s size) (bit (s (flight m j q)))
-    one-less j e =
-        subst
-        (λ (i : ℕ). tally (s size) (bit (leave s k m q p (flight m i q)))
-        < tally (s size) (bit (s (flight m i q)))) e
-        (tally-falls (s size) (bit (s (flight m k q))) (bit (leave s k m q p (flight m k q)))
-        (λ u z. leave-less s k m q p m k q u z) p hp f gone)
-
-    pub leave-falls : worth (part (leave s k m q p) m q) < worth (part s m q)
-    unfolding leave put worth
-    leave-falls = go (ℕ-discrete k 0) (ℕ-discrete k 1)
-      where
-        go : Dec (k ≡ 0) → Dec (k ≡ 1) → worth (part (leave s k m q p) m q) < worth (part s m q)
-        go (yes a) b = omega (arith, one-less 0 a, fewer m 1 q, fewer m 2 q)
-        go (no a) (yes b) = omega (arith, one-less 1 b, fewer m 0 q, fewer m 2 q)
-        go (no a) (no b) = omega (arith, one-less 2 (omega arith), fewer m 0 q, fewer m 1 q)
-
--- ---- a mark concerns no letter
-pub mark-lower : (s : State) (k m q p : ℕ) → Lower s (mark s k m q p)
-unfolding put
-mark-lower s k m q p = mark-cases (Lower s) s k m q p
-    (λ _. record {
-      same-size = refl;
-      same-count = refl;
-      same-addressees = λ x. refl;
-      lower = λ x r _ _. omega arith;
-    })
-    (λ _. lower-self s)
-
--- nor does a trust set, or a crash
-pub trust-lower : (s : State) (p set : ℕ) → Lower s (put s (trust p) set)
-unfolding put
-trust-lower s p set = record {
-  same-size = refl;
-  same-count = refl;
-  same-addressees = λ x. refl;
-  lower = λ x r _ _. omega arith;
-}
-
--- a crash
-pub crash-lower : (s : State) (p : ℕ) → Lower s (put s (up p) 0)
-unfolding put
-crash-lower s p = record {
-  same-size = refl;
-  same-count = refl;
-  same-addressees = λ x. refl;
-  lower = λ x r _ _. omega arith;
-}
-
--- ---- a message is held, and answered to all: of two rounds one is sent
-module _ (s : State) (p m : ℕ) (am : addressed s m p ≡ true) (new : s (held p m) ≢ 1) (b : Bool) where
-  -- a part that it does not concern
-  part-else : (x r : ℕ) → (p ≢ r) ⊎ (m ≢ x) → part (holding s p m (pick b 2 1)) x r ≡ part s x r
-  unfolding put
-  part-else x r n = λ j. record {
-    processes = s size;
-    addressees-of = addressee-count s x;
-    to = addressed s x r;
-    holds = eqb (put-other s (held p m) (held r x) 1 (λ e. elim n [ inl d ↦ d (cc) | inr d ↦ d (cc) ]) j) 1;
-    near = in-turn-or-past s x r;
-    firsts = put-other s (flight m (pick b 2 1) p) (flight x 0 r) (addressees s m) (λ e. elim n [
-      | inl d ↦ d (cc)
-      | inr d ↦ d (cc)
-    ]) j;
-    relays = put-other s (flight m (pick b 2 1) p) (flight x 1 r) (addressees s m) (λ e. elim n [
-      | inl d ↦ d (cc)
-      | inr d ↦ d (cc)
-    ]) j;
-    oks = put-other s (flight m (pick b 2 1) p) (flight x 2 r) (addressees s m) (λ e. elim n [
-      | inl d ↦ d (cc)
-      | inr d ↦ d (cc)
-    ]) j;
-  }
-
-  -- who holds it owes one round at most
-  holds-less : (y : Bool) → owes (addressee-count s m) true true y ≤ addressee-count s m
-  holds-less true = omega arith
-  holds-less false = omega arith
-
-  -- one round is sent, and one less is owed
-  part-here : worth (part (holding s p m (pick b 2 1)) m p) ≤ worth (part s m p)
-  unfolding worth put
-  part-here = go b refl
+  -- what is owed now was owed before
+  owed-back : (k m q u : ℕ) → m < s count → owed t k m q u ≡ true → owed s k m q u ≡ true
+  owed-back k m q u hm z =
+      both-i (not (sent s k m q)) (both (addressed s m q) (addressed s m u))
+      (not-sent (bool-cases (sent s k m q)))
+      (sym (ap₂ both (to-same m q) (to-same m u))
+      ∙ both-r (not (sent t k m q)) (both (addressed t m q) (addressed t m u)) z)
     where
-      a : ℕ
-      a = addressee-count s m
+      not-sent : (sent s k m q ≡ true) ⊎ (sent s k m q ≡ false) → not (sent s k m q) ≡ true
+      not-sent (inr x) = ap not x
+      not-sent (inl x) =
+          clash (sent-if t k m q (spent-on o k m q (hm, if-sent s k m q x) .1))
+          (not-true (sent t k m q) (both-l (not (sent t k m q)) (both (addressed t m q) (addressed t m u)) z))
 
-      before : owes (addressee-count s m) (addressed s m p) (eqb (s (held p m)) 1) (in-turn-or-past s m p)
-          ≡ 2 * addressee-count s m
-      before = rw (am, ne-eqb (s (held p m)) 1 new)
-
-      after : owes (addressee-count s m) (addressed s m p) (eqb (put s (held p m) 1 (held p m)) 1)
-          (in-turn-or-past s m p) ≤ addressee-count s m
-      after =
-          rw (am, eq-eqb (put s (held p m) 1 (held p m)) 1 (put-same s (held p m) (held p m) 1 refl))
-          (holds-less (in-turn-or-past s m p))
-
-      same : (j : ℕ) → pick b 2 1 ≢ j
-          → tally (s size) (bit (put s (flight m (pick b 2 1) p) (addressees s m) (flight m j p)))
-          ≡ tally (s size) (bit (s (flight m j p)))
-      same j n =
-          ap (λ (v : ℕ). tally (s size) (bit v))
-          (put-other s (flight m (pick b 2 1) p) (flight m j p) (addressees s m) (λ e. n (cc)))
-
-      full : (j : ℕ) → pick b 2 1 ≡ j
-          → tally (s size) (bit (put s (flight m (pick b 2 1) p) (addressees s m) (flight m j p)))
-          ≡ addressee-count s m
-      full j e =
-          ap (λ (v : ℕ). tally (s size) (bit v))
-          (put-same s (flight m (pick b 2 1) p) (flight m j p) (addressees s m)
-          (ap (λ (i : ℕ). flight m i p) e))
-          ∙ to-all s m
-
-      go : (c : Bool) → b ≡ c → worth (part (holding s p m (pick b 2 1)) m p) ≤ worth (part s m p)
-      go true e =
-          let two : _≡_ {A = ℕ} (pick b 2 1) 2 = rw e in
-          omega (arith, same 0 (omega arith), same 1 (omega arith), full 2 two, before, after)
-      go false e =
-          let one : _≡_ {A = ℕ} (pick b 2 1) 1 = rw e in
-          omega (arith, same 0 (omega arith), same 2 (omega arith), full 1 one, before, after)
-
-  -- so it raises nothing
-  answer-lower : Lower s (holding s p m (pick b 2 1))
-  unfolding put
-  answer-lower = record {
-    same-size = refl;
-    same-count = refl;
-    same-addressees = λ x. refl;
-    lower = λ x r _ _. at-part x r (ℕ-discrete p r) (ℕ-discrete m x);
-  }
+  -- no letter's part is raised
+  pub cost-lower : (k m q u : ℕ) → k < 3 → m < s count → q < s size → u < s size
+      → cost t k m q u ≤ cost s k m q u
+  unfolding cost
+  cost-lower k m q u hk hm hq hu =
+      costs (bit (s (flight m k q)) u) (bit (t (flight m k q)) u) (owed s k m q u) (owed t k m q u)
+      (owed-back k m q u hm) (λ f. elim (o .new-letter k m q u f) [
+        | inl a ↦ inl a
+        | inr a ↦ inr (was-owed k hk f (a .0), rw (sent-if t k m q (a .1 .1)))
+      ])
     where
-      at-part : (x r : ℕ) → Dec (p ≡ r) → Dec (m ≡ x)
-          → worth (part (holding s p m (pick b 2 1)) x r) ≤ worth (part s x r)
-      at-part x r (no n) d = omega (arith, ap worth (part-else x r (inl n)))
-      at-part x r (yes e) (no n) = omega (arith, ap worth (part-else x r (inr n)))
-      at-part x r (yes e) (yes d) =
-          subst₂ (λ (y z : ℕ). worth (part (holding s p m (pick b 2 1)) y z) ≤ worth (part s y z)) d e
-          part-here
+      size-is : t size ≡ s size
+      size-is = ap (λ (g : Ground). g .size) e
 
--- a message held
-pub hold-lower : (s : State) (p m : ℕ) → addressed s m p ≡ true → Lower s (hold s p m)
-hold-lower s p m am =
-    hold-cases (Lower s) s p m (λ _. lower-self s) (λ n. answer-lower s p m am n (in-turn s p m))
-
--- ---- a turn of the cascade: an OK to all is what a holder out of turn owes, and now owes no more
-module _ (t : State) (p m : ℕ) (h : HeldTo t p) where
-  -- what no part of it writes
-  same : still (fifo-one t p m) ≡ still t
-  same = fifo-one-still t p m
-
-  -- the number of processes
-  turn-size : fifo-one t p m size ≡ t size
-  turn-size = ap (λ (s : Still). s .ground .size) same
-
-  -- who was in turn or past it still is
-  near-stays : (x r : ℕ) → in-turn-or-past t x r ≡ true → in-turn-or-past (fifo-one t p m) x r ≡ true
-  near-stays x r e =
-      le-leb (fifo-one t p m (number x (fifo-one t p m (group r))))
-      (fifo-one t p m (next r (fifo-one t p m (sender x))))
-      (near-on t p m x r (leb-true (t (number x (t (group r)))) (t (next r (t (sender x)))) e))
-
-  -- the addressees of a message
-  addressees-turn : (x : ℕ) → addressee-count (fifo-one t p m) x ≡ addressee-count t x
-  addressees-turn x =
-      ap
-      (λ (s : Still). tally (s .ground .size) (λ q. bit (s .ground .messages .mask x) (s .ground .group q)))
-      same
-
-  -- the letters of kind k, unless they are the new OKs
-  flying : (x k r : ℕ) → fifo-one t p m (flight x k r) ≡ t (flight x k r)
-      → tally (fifo-one t p m size) (bit (fifo-one t p m (flight x k r)))
-      ≡ tally (t size) (bit (t (flight x k r)))
-  flying x k r e = ap₂ (λ (n w : ℕ). tally n (bit w)) turn-size e
-
-  -- letters of another kind
-  no-ok : (x k r : ℕ) → 2 ≢ k → fifo-one t p m (flight x k r) ≡ t (flight x k r)
-  no-ok x k r n = elim (letter-cases t p m x k r) [ inl c ↦ absurd (n (c .0 .is-ok)) | inr c ↦ c ]
-
-  -- what r owes, told by what it looks at
-  owes-is : (x r : ℕ)
-      → owes (addressee-count (fifo-one t p m) x) (addressed (fifo-one t p m) x r)
-      (eqb (fifo-one t p m (held r x)) 1)
-      (in-turn-or-past (fifo-one t p m) x r)
-      ≡ owes (addressee-count t x) (addressed t x r) (eqb (t (held r x)) 1)
-      (in-turn-or-past (fifo-one t p m) x r)
-  owes-is x r =
-      ap (λ (s : Still). owes
-      (tally (s .ground .size) (λ q. bit (s .ground .messages .mask x) (s .ground .group q)))
-      (bit (s .ground .messages .mask x) (s .ground .group r)) (eqb (s .held r x) 1)
-      (in-turn-or-past (fifo-one t p m) x r)) same
-
-  -- no part is raised
-  turn-part : (x r : ℕ) → worth (part (fifo-one t p m) x r) ≤ worth (part t x r)
-  unfolding worth
-  turn-part x r = go (letter-cases t p m x 2 r)
-    where
-      go : (NewOk t p m x 2 r × (fifo-one t p m (flight x 2 r) ≡ addressees t x))
-          ⊎ (fifo-one t p m (flight x 2 r) ≡ t (flight x 2 r))
-          → worth (part (fifo-one t p m) x r) ≤ worth (part t x r)
-      go (inr e) =
-          omega (
-            arith,
-            flying x 0 r (no-ok x 0 r (omega arith)),
-            flying x 1 r (no-ok x 1 r (omega arith)),
-            flying x 2 r e,
-            owes-is x r,
-            owes-near (addressee-count t x) (addressed t x r) (eqb (t (held r x)) 1) (in-turn-or-past t x r)
-                (in-turn-or-past (fifo-one t p m) x r) (near-stays x r),
-          )
-      go (inl (c, e)) =
-          omega (
-            arith,
-            flying x 0 r (no-ok x 0 r (omega arith)),
-            flying x 1 r (no-ok x 1 r (omega arith)),
-            full,
-            owes-is x r,
-            owed .0,
-            owed .1,
-          )
+      was-owed : (j : ℕ) → j < 3 → Fly t m j q u → (¬ Spent s j m q) → owed s j m q u ≡ true
+      was-owed zero l f n = absurd (n (hm, tt))
+      was-owed (suc j) l f n =
+          let count-is = ap (λ (g : Ground). g .messages .total) e in
+          let d = letter-facts t h (suc j) m q u l (omega (arith, count-high t h))
+          (omega (arith, size-is, size-high t h)) (omega (arith, size-is, size-high t h)) f in
+          both-i (not (sent s (suc j) m q)) (both (addressed s m q) (addressed s m u))
+          (unsent (bool-cases (sent s (suc j) m q)))
+          (both-i (addressed s m q) (addressed s m u)
+          (sym (to-same m q)
+          ∙ both-r (ltb q (t size)) (addressed t m q) (sym (sends-later t m j q) ∙ d .from))
+          (sym (to-same m u) ∙ both-r (ltb u (t size)) (addressed t m u) (d .to)))
         where
-          full : tally (fifo-one t p m size) (bit (fifo-one t p m (flight x 2 r))) ≡ addressee-count t x
-          full = ap₂ (λ (n w : ℕ). tally n (bit w)) turn-size e ∙ to-all t x
+          unsent : (sent s (suc j) m q ≡ true) ⊎ (sent s (suc j) m q ≡ false) → not (sent s (suc j) m q) ≡ true
+          unsent (inl x) = absurd (n (hm, if-sent s (suc j) m q x))
+          unsent (inr x) = ap not x
 
-          -- x is out of turn before, and in turn after
-          far : in-turn-or-past t x p ≡ false
-          far = lt-leb (t (number x (t (group p)))) (t (next p (t (sender x)))) (ok-far t p m x 2 r c)
+-- ---- so the potential falls, where one letter's part does
+pub potential-falls : (s t : State) → t count ≡ s count → t size ≡ s size
+    → ((k m q u : ℕ) → k < 3 → m < s count → q < s size → u < s size → cost t k m q u ≤ cost s k m q u)
+    → (k m q u : ℕ) → k < 3 → m < s count → q < s size → u < s size → cost t k m q u < cost s k m q u
+    → potential t < potential s
+unfolding potential
+potential-falls s t ec ez low k m q u hk hm hq hu less =
+    subst₂ (λ (c i : ℕ). sum c (of-message i t) < sum (s count) (of-message n s)) (sym ec) (sym ez)
+    (sum-falls (s count) (of-message n t) (of-message n s)
+    (λ x hx. sum-mono 3 (of-kind n t x) (of-kind n s x) (λ j hj. kinds j x hj hx)) m hm
+    (sum-falls 3 (of-kind n t m) (of-kind n s m) (λ j hj. kinds j m hj hm) k hk
+    (sum-falls n (from-one n t m k) (from-one n s m k) (λ r hr. ones k m r hk hm hr) q hq
+    (sum-falls n (cost t k m q) (cost s k m q) (λ v hv. low k m q v hk hm hq hv) u hu less))))
+  where
+    n : ℕ
+    n = s size
 
-          near : in-turn-or-past (fifo-one t p m) x p ≡ true
-          near =
-              le-leb (fifo-one t p m (number x (fifo-one t p m (group p))))
-              (fifo-one t p m (next p (fifo-one t p m (sender x)))) (ok-near t p m x 2 r c)
+    ones : (j x r : ℕ) → j < 3 → x < s count → r < s size
+        → from-one (s size) t x j r ≤ from-one (s size) s x j r
+    ones j x r hj hx hr = sum-mono n (cost t j x r) (cost s j x r) (λ v hv. low j x r v hj hx hr hv)
 
-          owed : (owes (addressee-count t x) (addressed t x r) (eqb (t (held r x)) 1) (in-turn-or-past t x r)
-              ≡ addressee-count t x)
-              × (owes (addressee-count t x) (addressed t x r) (eqb (t (held r x)) 1)
-              (in-turn-or-past (fifo-one t p m) x r) ≡ 0)
-          owed =
-              let to-x : addressed t x p ≡ true = h x (c .low) (c .has) in
-              subst
-              (λ (y : ℕ).
-              (owes (addressee-count t x) (addressed t x y) (eqb (t (held y x)) 1)
-              (in-turn-or-past t x y) ≡ addressee-count t x)
-              × (owes (addressee-count t x) (addressed t x y) (eqb (t (held y x)) 1)
-              (in-turn-or-past (fifo-one t p m) x y) ≡ 0)) (c .by) (
-                rw (to-x, eq-eqb (t (held p x)) 1 (c .has), far) refl,
-                rw
-                    (to-x, eq-eqb (t (held p x)) 1 (c .has), near) refl,
-              )
+    kinds : (j x : ℕ) → j < 3 → x < s count → of-kind (s size) t x j ≤ of-kind (s size) s x j
+    kinds j x hj hx = sum-mono n (from-one n t x j) (from-one n s x j) (λ r hr. ones j x r hj hx hr)
 
-  -- so a turn raises nothing
-  turn-lower : Lower t (fifo-one t p m)
-  turn-lower = record {
-    same-size = turn-size;
-    same-count = ap (λ (s : Still). s .ground .messages .total) same;
-    same-addressees = addressees-turn;
-    lower = λ x r _ _. turn-part x r;
-  }
+-- ---- a letter that leaves lowers its own part
+module _ (s : State) (k m q p : ℕ) where
+  -- what may still be sent is the same
+  leave-sent : (j x r : ℕ) → sent (leave s k m q p) j x r ≡ sent s j x r
+  unfolding leave put
+  leave-sent zero x r = refl
+  leave-sent (suc zero) x r = refl
+  leave-sent (suc (suc j)) x r = refl
 
--- the cascade
-record Cascading (p : ℕ) (b t : State) : Type 0 where
-  pub lowered : Lower b t
-  pub same-still : still t ≡ still b
-
--- nor does the cascade
-pub cascade-lower : (s : State) (p : ℕ) → HeldTo s p → Lower s (cascade s p)
-unfolding cascade
-cascade-lower s p h =
-    loop-keeps (λ t. t count) (λ t. ready t p) (λ t. fifo-one t p) (Cascading p s)
-    (λ t m _ _ _ k. record {
-      lowered = lower-then (k .lowered) (turn-lower t p m (held-to p s t (k .same-still) h));
-      same-still = fifo-one-still t p m ∙ k .same-still;
-    })
-    (s count - s (fifo-length p)) s (record { lowered = lower-self s; same-still = refl }) .lowered
+  -- one less flies
+  pub leave-falls : Fly s m k q p → cost (leave s k m q p) k m q p < cost s k m q p
+  unfolding leave put cost
+  leave-falls f =
+      omega (
+        arith,
+        one-yes f,
+        one-no gone,
+        ap (λ (b : Bool). one (both (not b) (both (addressed s m q) (addressed s m p)))) (leave-sent k m q),
+      )
+    where
+      gone : bit (leave s k m q p (flight m k q)) p ≡ false
+      gone =
+          ap (λ (v : ℕ). bit v p)
+          (put-same s (flight m k q) (flight m k q) (without (s (flight m k q)) p) refl)
+          ∙ without-hit (s (flight m k q)) p

@@ -2,22 +2,25 @@
 -- potential, and with a budget of at least that it says done, with no letter left to move. For any choice of
 -- the next letter that names only letters that can move, and names nothing only where none can; document 01's
 -- choice of the lowest is one. Assumes nothing.
-use mathlib.Core.Path.{_≡_, refl, subst}
+use mathlib.Core.Path.{_≡_, refl, ap, subst}
 use mathlib.Core.List.{List}
 use Prim.Native.Nat.{ℕ, zero, suc, _+_, _*_, _≤_, _<_}
 use native.Mathlib.Omega.{arith}
-use Rattle.world.specs.World.{count, State}
+use Rattle.world.specs.World.{count, State, put}
 use Rattle.world.specs.Sound.{Sound}
 use Rattle.world.specs.Setup.{setup-refusal}
-use Rattle.world.specs.Machine.{arrival}
+use Rattle.world.specs.Machine.{leave, arrival}
 use Rattle.world.specs.Steps.{arrives, step}
 use Rattle.world.specs.StepLaws.{Moves, Chosen, lowest-chosen}
 use Rattle.world.specs.Settle.{Choice, letter, nothing, lowest, Ending, done, stopped, Settled, settle-from, settle}
 use Rattle.world.specs.History.{Item, on-states, run, started}
-use Rattle.keeps.specs.Keeps.{step-sound}
-use Rattle.effects.specs.Holding.{chosen-accepted}
-use Rattle.bound.specs.Potential.{sum, addressee-count, potential, potential-falls}
-use Rattle.bound.specs.Bound.{arrival-lower, ceiling, Kept, kept-made, kept-run, reached-potential, ceiling-most, sound-potential}
+use Rattle.keeps.specs.Keeps.{fresh-sound, step-sound, run-sound}
+use Rattle.effects.specs.Views.{Ground}
+use Rattle.effects.specs.Holding.{chosen-accepted, arrival-ground}
+use Rattle.effects.specs.Spent.{arrived-once, step-once}
+use Rattle.bound.specs.Once.{flying-spent}
+use Rattle.bound.specs.Potential.{sum, addressee-count, potential, cost-lower, potential-falls, leave-falls}
+use Rattle.bound.specs.Bound.{ceiling, reached-potential, ceiling-most, sound-potential}
 
 -- ---- an answer: the arrivals that it names, and whether it says done
 abbrev pub arrivals : Ending → ℕ
@@ -76,17 +79,29 @@ module _ {S : Type 0} (choose : S → Choice) (arrive : S → ℕ → ℕ → �
             }
         go nothing e ih = record { kept = p; few = omega arith; finishes = λ h. (refl, e) }
 
--- ---- an arrival of a letter that can move lowers the potential of a sound world
-pub moved-falls : (s : State) (k m q p : ℕ) → Sound s → Moves s k m q p
-    → potential (arrival s k m q p) < potential s
-moved-falls s k m q p h a =
-    let z = arrival-lower s k m q p h (a .letter) in
-    potential-falls (z .lowered) m q (a .letter .message) (a .letter .from) (z .falls)
+-- ---- a letter that can move, of a sound world
+module _ (s : State) (k m q p : ℕ) (h : Sound s) (a : Moves s k m q p) where
+  -- its arrival leaves the world sound
+  sound-arrival : Sound (arrival s k m q p)
+  unfolding step
+  sound-arrival = step-sound s (arrives k m q p) (chosen-accepted s k m q p a) h
 
--- the world stays sound
-sound-arrival : (s : State) (k m q p : ℕ) → Moves s k m q p → Sound s → Sound (arrival s k m q p)
-unfolding step
-sound-arrival s k m q p a h = step-sound s (arrives k m q p) (chosen-accepted s k m q p a) h
+  -- and lowers the potential
+  pub moved-falls : potential (arrival s k m q p) < potential s
+  unfolding step leave put
+  moved-falls =
+      let l = a .letter in
+      let g = arrival-ground s k m q p in
+      potential-falls s (arrival s k m q p) (ap (λ (v : Ground). v .messages .total) g)
+      (ap (λ (v : Ground). v .size) g)
+      (cost-lower (step-once s (arrives k m q p) (chosen-accepted s k m q p a)) g sound-arrival) k m q p
+      (l .kind) (l .message) (l .from) (l .to)
+      (omega (
+        arith,
+        cost-lower (arrived-once s k m q p (l .message)) g sound-arrival k m q p (l .kind) (l .message)
+            (l .from) (l .to),
+        leave-falls s k m q p (l .flies),
+      ))
 
 -- ---- settle on a sound world, with any such choice
 module _ (choose : State → Choice) (good : (s : State) → Chosen s (choose s)) where
@@ -98,7 +113,7 @@ module _ (choose : State → Choice) (good : (s : State) → Chosen s (choose s)
     where
       moved : (t : State) (k m q p : ℕ) → Moves t k m q p → Sound t
           → Falls choose arrival Sound potential t (arrival t k m q p)
-      moved t k m q p a z = record { keeps = sound-arrival t k m q p a z; lowers = moved-falls t k m q p z a }
+      moved t k m q p a z = record { keeps = sound-arrival t k m q p z a; lowers = moved-falls t k m q p z a }
 
 -- ---- the theorems
 module _ (s : State) (b : ℕ) (h : Sound s) where
@@ -124,20 +139,29 @@ module _ (setup : List ℕ) (items : List Item) (ok : setup-refusal setup ≡ 0)
   abbrev end : State
   end = run on-states (started setup) items .now
 
-  -- the state after the list is sound, and bounded
-  kept : Kept (run on-states (started setup) items .now)
-  kept = kept-run (started setup) items (kept-made setup ok)
+  -- it is sound
+  sound-end : Sound (run on-states (started setup) items .now)
+  sound-end = run-sound (started setup) items (fresh-sound setup ok)
+
+  -- its potential
+  few : potential (run on-states (started setup) items .now)
+      ≤ sum (run on-states (started setup) items .now count)
+      (λ m. ceiling (addressee-count (run on-states (started setup) items .now) m))
+  few = reached-potential end sound-end (flying-spent setup items)
+
+  -- is at most 33,792
+  pub reached-low : potential (run on-states (started setup) items .now) ≤ 33792
+  reached-low = omega (arith, few, ceiling-most end sound-end)
 
   -- the bound of document 01
   pub reached-settle-bound : (b : ℕ) → arrivals (settle (run on-states (started setup) items .now) b .ending)
       ≤ sum (run on-states (started setup) items .now count)
       (λ m. ceiling (addressee-count (run on-states (started setup) items .now) m))
   reached-settle-bound b =
-      omega (arith, ended end b (kept .sound) .few, reached-potential end (kept .bounded))
+      omega (arith, ended end b sound-end .few, few)
 
   -- a settle with at least 33,792 arrivals says done, without the trust rule
   pub reached-settle-done : (b : ℕ) → 33792 ≤ b
       → SaysDone (settle (run on-states (started setup) items .now) b .ending)
   reached-settle-done b l =
-      ended end b (kept .sound) .finishes
-      (omega (arith, reached-potential end (kept .bounded), ceiling-most end (kept .sound))) .0
+      ended end b sound-end .finishes (omega (arith, reached-low)) .0

@@ -1,14 +1,13 @@
 -- States that agree on the world's cells: what the steps read lies within the layout, so that a step from
--- states that agree ends in states that agree. The argument goes part by part, with the bounds that keep
--- reads within the layout (Sane). Assumes nothing.
+-- states that agree ends in states that agree. A cell that names a process, a message, a group or a length
+-- holds one that the layout has (Fits); every store keeps that, since the fuel of the two loops is the room
+-- that the logs have. Assumes nothing.
 use mathlib.Core.Path.{_≡_, refl, sym, ap, ap₂, _∙_, subst}
 use mathlib.Core.Bool.{Bool, true, false, not, _&&_, _||_}
-use mathlib.Core.Logic.{_≢_}
 use Prim.Native.Nat.{ℕ, zero, suc, _+_, _-_, _≤_, _<_, max}
 use native.Mathlib.Omega.{arith}
-use native.Mathlib.Decide.{ℕ-discrete}
 use lib.Dec.{leb, eqb}
-use Rattle.base.specs.Tests.{pick, at-or-off}
+use Rattle.base.specs.Tests.{pick}
 use Rattle.base.specs.Search.{every, every-cong}
 use Rattle.base.specs.Loop.{loop, loop-related}
 use Rattle.base.specs.Count.{absent-cong}
@@ -16,36 +15,52 @@ use Rattle.base.specs.Bits.{bit, with, without, mask-of, mask-of-cong}
 use Rattle.world.specs.World.{Cell, size, count, rule, group, trust, counter, sequence, next, delivered, up, fifo-length, causal-length, held, marks, fifo, causal, sender, mask, stamp, number, flight, order, unused, Within, State, put}
 use Rattle.world.specs.Layout.{put-same, put-other, put-at}
 use Rattle.world.specs.Machine.{Tables, with-tables, addressed, addressees, in-turn, outside-causal, marked, ready, fits, deliverable, deliverable-at, merge, causal-one, causal-all, due, send-ok, send-oks, appended, raised-next, fifo-one, cascade, raised, stamped, numbered, posted, multicast, leave, mark, hold, arrival, trust-set, crash}
-use Rattle.effects.specs.Arrival.{mark-cases, hold-cases}
+use Rattle.effects.specs.Views.{Process}
+use Rattle.effects.specs.Cascade.{Front, causal-delivered, causal-one-here, fifo-one-front}
 
--- on every cell of the world
+-- ---- what a cell may hold, so that whatever is read by it lies within the layout
+abbrev pub Fits : Cell → ℕ → Type 0
+Fits size v = v ≤ 16
+Fits count v = v ≤ 64
+Fits rule v = Unit {0}
+Fits (group p) v = v < 8
+Fits (trust p) v = Unit {0}
+Fits (counter p g q) v = Unit {0}
+Fits (sequence p g) v = Unit {0}
+Fits (next p q) v = Unit {0}
+Fits (delivered p q) v = Unit {0}
+Fits (up p) v = Unit {0}
+Fits (fifo-length p) v = v ≤ 64
+Fits (causal-length p) v = v ≤ 64
+Fits (held p m) v = Unit {0}
+Fits (marks p m) v = Unit {0}
+Fits (fifo p i) v = v < 64
+Fits (causal p i) v = Unit {0}
+Fits (sender m) v = v < 16
+Fits (mask m) v = Unit {0}
+Fits (stamp m g q) v = Unit {0}
+Fits (number m g) v = Unit {0}
+Fits (flight m k q) v = Unit {0}
+Fits (order m) v = Unit {0}
+Fits (unused i) v = Unit {0}
+
+-- two states that agree on every cell of the world, and fit it
 pub record Agree (s t : State) : Type 0 where
-  pub same : (c : Cell) → Within c → s c ≡ t c
-
--- ---- the bounds that keep reads within the layout
-pub record Sane (s : State) : Type 0 where
-  pub sizes : s size ≤ 16
-  pub counts : s count ≤ 64
-  pub groups : (p : ℕ) → p < 16 → s (group p) < 8
-  pub senders : (m : ℕ) → m < s count → s (sender m) < 16
-  pub logged : (p i : ℕ) → p < 16 → i < s (fifo-length p) → s (fifo p i) < s count
-  pub listed : (p : ℕ) → p < 16 → s (fifo-length p) ≤ s count
-  pub causals : (p : ℕ) → p < 16 → s (causal-length p) ≤ s (fifo-length p)
-
--- two states that agree, the first within the bounds
-pub record Both (s t : State) : Type 0 where
-  pub agree : Agree s t
-  pub sane : Sane s
+  pub at : (c : Cell) → Within c → (s c ≡ t c) × Fits c (s c)
 
 -- ---- stores
-put-agree : {s t : State} (c d : Cell) (v w : ℕ) → c ≡ d → v ≡ w → Agree s t → Agree (put s c v) (put t d w)
-put-agree {s} {t} c d v w ec ev a =
-    record { same = λ e i. at-cell e i ∙ ap₂ (λ (x : Cell) (y : ℕ). put t x y e) ec ev }
+put-agree : {s t : State} (c d : Cell) (v w : ℕ) → c ≡ d → v ≡ w → Fits c v → Agree s t
+    → Agree (put s c v) (put t d w)
+put-agree {s} {t} c d v w ec ev f a =
+    record { at = λ e i. (same e i ∙ ap₂ (λ (x : Cell) (y : ℕ). put t x y e) ec ev, fit e i) }
   where
-    at-cell : (e : Cell) → Within e → put s c v e ≡ put t c v e
-    at-cell e i =
+    same : (e : Cell) → Within e → put s c v e ≡ put t c v e
+    same e i =
         put-at s c e v (λ x. x ≡ put t c v e) (λ q. sym (put-same t c e v q))
-        (λ n. a .same e i ∙ sym (put-other t c e v n))
+        (λ n. a .at e i .0 ∙ sym (put-other t c e v n))
+
+    fit : (e : Cell) → Within e → Fits e (put s c v e)
+    fit e i = put-at s c e v (Fits e) (λ q. subst (λ (x : Cell). Fits x v) q f) (λ _. a .at e i .1)
 
 -- a choice between two
 pick-agree : {s t s′ t′ : State} (b b′ : Bool) → b ≡ b′ → Agree s t → Agree s′ t′
@@ -63,589 +78,336 @@ record SameTables (t u : Tables) : Type 0 where
   pub stamps : (m g q : ℕ) → Within (stamp m g q) → t .stamps m g q ≡ u .stamps m g q
   pub numbers : (m g : ℕ) → Within (number m g) → t .numbers m g ≡ u .numbers m g
 
--- at each cell
-tables-at : (s t : State) (u v : Tables) → SameTables u v → Agree s t → (c : Cell) → Within c
-    → with-tables s u c ≡ with-tables t v c
-unfolding with-tables
-tables-at s t u v e z size w = z .same size w
-tables-at s t u v e z count w = z .same count w
-tables-at s t u v e z rule w = z .same rule w
-tables-at s t u v e z (group p) w = z .same (group p) w
-tables-at s t u v e z (trust p) w = z .same (trust p) w
-tables-at s t u v e z (counter p g q) w = e .counters p g q w
-tables-at s t u v e z (sequence p g) w = e .sequences p g w
-tables-at s t u v e z (next p q) w = z .same (next p q) w
-tables-at s t u v e z (delivered p q) w = z .same (delivered p q) w
-tables-at s t u v e z (up p) w = z .same (up p) w
-tables-at s t u v e z (fifo-length p) w = z .same (fifo-length p) w
-tables-at s t u v e z (causal-length p) w = z .same (causal-length p) w
-tables-at s t u v e z (held p m) w = z .same (held p m) w
-tables-at s t u v e z (marks p m) w = z .same (marks p m) w
-tables-at s t u v e z (fifo p i) w = z .same (fifo p i) w
-tables-at s t u v e z (causal p i) w = z .same (causal p i) w
-tables-at s t u v e z (sender m) w = z .same (sender m) w
-tables-at s t u v e z (mask m) w = z .same (mask m) w
-tables-at s t u v e z (stamp m g q) w = e .stamps m g q w
-tables-at s t u v e z (number m g) w = e .numbers m g w
-tables-at s t u v e z (flight m k q) w = z .same (flight m k q) w
-tables-at s t u v e z (order m) w = z .same (order m) w
-tables-at s t u v e z (unused a) w = z .same (unused a) w
-
 -- states with such tables
 tables-agree : {s t : State} (u v : Tables) → SameTables u v → Agree s t
     → Agree (with-tables s u) (with-tables t v)
-tables-agree {s} {t} u v e z = record { same = tables-at s t u v e z }
+unfolding with-tables
+tables-agree {s} {t} u v e z = record { at = go }
+  where
+    go : (c : Cell) → Within c → (with-tables s u c ≡ with-tables t v c) × Fits c (with-tables s u c)
+    go size w = z .at size w
+    go count w = z .at count w
+    go rule w = z .at rule w
+    go (group p) w = z .at (group p) w
+    go (trust p) w = z .at (trust p) w
+    go (counter p g q) w = (e .counters p g q w, tt)
+    go (sequence p g) w = (e .sequences p g w, tt)
+    go (next p q) w = z .at (next p q) w
+    go (delivered p q) w = z .at (delivered p q) w
+    go (up p) w = z .at (up p) w
+    go (fifo-length p) w = z .at (fifo-length p) w
+    go (causal-length p) w = z .at (causal-length p) w
+    go (held p m) w = z .at (held p m) w
+    go (marks p m) w = z .at (marks p m) w
+    go (fifo p i) w = z .at (fifo p i) w
+    go (causal p i) w = z .at (causal p i) w
+    go (sender m) w = z .at (sender m) w
+    go (mask m) w = z .at (mask m) w
+    go (stamp m g q) w = (e .stamps m g q w, tt)
+    go (number m g) w = (e .numbers m g w, tt)
+    go (flight m k q) w = z .at (flight m k q) w
+    go (order m) w = z .at (order m) w
+    go (unused a) w = z .at (unused a) w
 
 -- ---- what the tests read
 module _ {s t : State} (a : Agree s t) where
+  -- cell by cell
+  pub same : (c : Cell) → Within c → s c ≡ t c
+  same c w = a .at c w .0
+
+  -- below n, below count: within the layout
+  pub process-low : (q : ℕ) → q < s size → q < 16
+  process-low q l = omega (arith, a .at size tt .1)
+
+  pub message-low : (m : ℕ) → m < s count → m < 64
+  message-low m l = omega (arith, a .at count tt .1)
+
+  -- to whom a message is
   to-agree : (m q : ℕ) → m < 64 → q < 16 → addressed s m q ≡ addressed t m q
-  to-agree m q hm hq = ap₂ bit (a .same (mask m) (omega arith)) (a .same (group q) (omega arith))
+  to-agree m q hm hq = ap₂ bit (same (mask m) hm) (same (group q) hq)
 
   -- the addressees
-  all-agree : s size ≤ 16 → (m : ℕ) → m < 64 → addressees s m ≡ addressees t m
-  all-agree z m hm =
-      mask-of-cong (s size) (addressed s m) (addressed t m) (λ q l. to-agree m q hm (omega arith))
-      ∙ ap (λ (n : ℕ). mask-of n (addressed t m)) (a .same size tt)
+  all-agree : (m : ℕ) → m < 64 → addressees s m ≡ addressees t m
+  all-agree m hm =
+      mask-of-cong (s size) (addressed s m) (addressed t m) (λ q l. to-agree m q hm (process-low q l))
+      ∙ ap (λ (n : ℕ). mask-of n (addressed t m)) (same size tt)
 
-  module _ (h : Sane s) (p : ℕ) (hp : p < 16) where
-    same-group : s (group p) ≡ t (group p)
-    same-group = a .same (group p) hp
+  module _ (p : ℕ) (hp : p < 16) where
+    -- what stands in the entry of p's group
+    number-agree : (m : ℕ) → m < 64 → s (number m (s (group p))) ≡ t (number m (t (group p)))
+    number-agree m hm =
+        same (number m (s (group p))) (hm, a .at (group p) hp .1)
+        ∙ ap (λ (g : ℕ). t (number m g)) (same (group p) hp)
 
-    turn-agree : (m : ℕ) → m < s count → in-turn s p m ≡ in-turn t p m
+    -- for a sender too
+    stamp-agree : (m q : ℕ) → m < 64 → q < 16 → s (stamp m (s (group p)) q) ≡ t (stamp m (t (group p)) q)
+    stamp-agree m q hm hq =
+        same (stamp m (s (group p)) q) (hm, a .at (group p) hp .1, hq)
+        ∙ ap (λ (g : ℕ). t (stamp m g q)) (same (group p) hp)
+
+    -- the tests
+    turn-agree : (m : ℕ) → m < 64 → in-turn s p m ≡ in-turn t p m
     turn-agree m hm =
-        ap₂ eqb
-        (a .same (number m (s (group p))) (omega (arith, h .groups p hp, h .counts))
-        ∙ ap (λ (g : ℕ). t (number m g)) same-group)
-        (a .same (next p (s (sender m))) (omega (arith, h .senders m hm))
-        ∙ ap (λ (q : ℕ). t (next p q)) (a .same (sender m) (omega (arith, h .counts))))
+        ap₂ eqb (number-agree m hm)
+        (same (next p (s (sender m))) (hp, a .at (sender m) hm .1)
+        ∙ ap (λ (q : ℕ). t (next p q)) (same (sender m) hm))
 
-    ready-agree : (m : ℕ) → m < s count → ready s p m ≡ ready t p m
+    held-agree : (m : ℕ) → m < 64 → eqb (s (held p m)) 1 ≡ eqb (t (held p m)) 1
+    held-agree m hm = ap (λ (v : ℕ). eqb v 1) (same (held p m) (hp, hm))
+
+    due-agree : (q m : ℕ) → m < 64 → due s p q m ≡ due t p q m
+    unfolding due
+    due-agree q m hm =
+        ap₂ (λ (x y : Bool). x && y)
+        (ap₂ (λ (x y : Bool). x && y) (held-agree m hm) (ap (λ (y : ℕ). eqb y q) (same (sender m) hm)))
+        (turn-agree m hm)
+
+    ready-agree : (m : ℕ) → m < 64 → ready s p m ≡ ready t p m
     unfolding ready
     ready-agree m hm =
-        let l64 : m < 64 = omega (arith, h .counts) in
         ap₂ (λ (x y : Bool). x && y)
         (ap₂ (λ (x y : Bool). x && y)
-        (ap₂ (λ (x y : Bool). x && y) (ap (λ (v : ℕ). eqb v 1) (a .same (held p m) (omega arith)))
+        (ap₂ (λ (x y : Bool). x && y) (held-agree m hm)
         (absent-cong (s (fifo-length p)) (t (fifo-length p)) m (λ i. s (fifo p i)) (λ i. t (fifo p i))
-        (a .same (fifo-length p) (omega arith))
-        (λ i l. a .same (fifo p i) (omega (arith, h .listed p hp, h .counts)))))
+        (same (fifo-length p) hp)
+        (λ i l. same (fifo p i) (omega (arith, a .at (fifo-length p) hp .1)))))
         (turn-agree m hm))
-        (every-cong (s size) (marked s p m) (marked t p m)
-        (λ q l. mark-agree m q l64 (omega (arith, h .sizes)))
-        ∙ ap (λ (n : ℕ). every n (marked t p m)) (a .same size tt))
+        (every-cong (s size) (marked s p m) (marked t p m) (λ q l. mark-agree q (process-low q l))
+        ∙ ap (λ (n : ℕ). every n (marked t p m)) (same size tt))
       where
-        mark-agree : (m q : ℕ) → m < 64 → q < 16 → marked s p m q ≡ marked t p m q
-        mark-agree m q hm hq =
+        mark-agree : (q : ℕ) → q < 16 → marked s p m q ≡ marked t p m q
+        mark-agree q hq =
             ap₂ (λ (x y : Bool). not x || y)
-            (ap₂ (λ (x y : Bool). x && y) (ap (λ (v : ℕ). bit v q) (a .same (trust p) (omega arith)))
-            (to-agree m q hm hq))
-            (ap (λ (v : ℕ). bit v q) (a .same (marks p m) (omega arith)))
+            (ap₂ (λ (x y : Bool). x && y) (ap (λ (v : ℕ). bit v q) (same (trust p) hp)) (to-agree m q hm hq))
+            (ap (λ (v : ℕ). bit v q) (same (marks p m) (hp, hm)))
 
-    item-agree : (i : ℕ) → i < s (fifo-length p) → s (fifo p i) ≡ t (fifo p i)
-    item-agree i hi = a .same (fifo p i) (omega (arith, h .listed p hp, h .counts))
-
-    deliverable-agree : (i : ℕ) → i < s (fifo-length p) → deliverable-at s p i ≡ deliverable-at t p i
+    deliverable-agree : (i : ℕ) → i < 64 → deliverable-at s p i ≡ deliverable-at t p i
     unfolding deliverable-at deliverable
     deliverable-agree i hi =
-        let m : ℕ = s (fifo p i) in
-        let hm : s (fifo p i) < 64 = omega (arith, h .logged p i hp hi, h .counts) in
         ap₂ (λ (x y : Bool). x && y)
         (absent-cong (s (causal-length p)) (t (causal-length p)) m (λ j. s (causal p j)) (λ j. t (causal p j))
-        (a .same (causal-length p) (omega arith))
-        (λ j l. a .same (causal p j) (omega (arith, h .causals p hp, h .listed p hp, h .counts))))
-        (every-cong (s size) (fits s p m) (fits t p m) (λ q l. fit-agree m q hm (omega (arith, h .sizes)))
-        ∙ ap (λ (n : ℕ). every n (fits t p m)) (a .same size tt))
-        ∙ ap (λ (x : ℕ). outside-causal t p x && every (t size) (fits t p x)) (item-agree i hi)
+        (same (causal-length p) hp)
+        (λ j l. same (causal p j) (omega (arith, a .at (causal-length p) hp .1))))
+        (every-cong (s size) (fits s p m) (fits t p m) (λ q l. fit-agree q (process-low q l))
+        ∙ ap (λ (n : ℕ). every n (fits t p m)) (same size tt))
+        ∙ ap (λ (x : ℕ). outside-causal t p x && every (t size) (fits t p x)) (same (fifo p i) (hp, hi))
       where
-        fit-agree : (m q : ℕ) → m < 64 → q < 16 → fits s p m q ≡ fits t p m q
-        fit-agree m q hm hq =
-            ap₂ (λ (x y : Bool). x || y) (ap (eqb q) (a .same (sender m) (omega arith)))
-            (ap₂ leb
-            (a .same (stamp m (s (group p)) q) (omega (arith, h .groups p hp))
-            ∙ ap (λ (g : ℕ). t (stamp m g q)) same-group)
-            (a .same (delivered p q) (omega arith)))
+        m : ℕ
+        m = s (fifo p i)
 
--- ---- what the bounds look at; stores on other cells leave it
-record Limits : Type 0 where
-  pub size : ℕ
-  pub count : ℕ
-  pub group : ℕ → ℕ
-  pub sender : ℕ → ℕ
-  pub fifo : ℕ → ℕ → ℕ
-  pub fifo-length : ℕ → ℕ
-  pub causal-length : ℕ → ℕ
-
--- of a state
-abbrev limits : State → Limits
-limits s = record {
-  size = s size;
-  count = s count;
-  group = λ p. s (group p);
-  sender = λ m. s (sender m);
-  fifo = λ p i. s (fifo p i);
-  fifo-length = λ p. s (fifo-length p);
-  causal-length = λ p. s (causal-length p);
-}
-
--- the bounds stay
-sane-same : (s t : State) → limits t ≡ limits s → Sane s → Sane t
-sane-same s t e h =
-    let count-is = ap (λ (l : Limits). l .count) e in
-    record {
-      sizes = omega (arith, ap (λ (l : Limits). l .size) e, h .sizes);
-      counts = omega (arith, count-is, h .counts);
-      groups = λ p hp. omega (arith, ap (λ (l : Limits). l .group p) e, h .groups p hp);
-      senders =
-          λ m hm. omega (arith, ap (λ (l : Limits). l .sender m) e, h .senders m (omega (arith, count-is)));
-      logged = λ p i hp hi. omega (
-        arith,
-        ap (λ (l : Limits). l .fifo p i) e,
-        count-is,
-        h .logged p i hp (omega (arith, ap (λ (l : Limits). l .fifo-length p) e)),
-      );
-      listed = λ p hp. omega (arith, ap (λ (l : Limits). l .fifo-length p) e, count-is, h .listed p hp);
-      causals = λ p hp.
-          omega (
-            arith,
-            ap (λ (l : Limits). l .fifo-length p) e,
-            ap (λ (l : Limits). l .causal-length p) e,
-            h
-                .causals p hp,
-          );
-    }
+        fit-agree : (q : ℕ) → q < 16 → fits s p (s (fifo p i)) q ≡ fits t p (s (fifo p i)) q
+        fit-agree q hq =
+            let hm = a .at (fifo p i) (hp, hi) .1 in
+            ap₂ (λ (x y : Bool). x || y) (ap (eqb q) (same (sender m) hm))
+            (ap₂ leb (stamp-agree m q hm hq) (same (delivered p q) (hp, hq)))
 
 -- ---- causal deliveries
-one-agree : {s t : State} (p i : ℕ) → p < 16 → i < s (fifo-length p) → Both s t
+one-agree : {s t : State} (p i : ℕ) → p < 16 → i < 64 → s (causal-length p) < 64 → Agree s t
     → Agree (causal-one s p i) (causal-one t p i)
 unfolding causal-one merge put
-one-agree {s} {t} p i hp hi z =
+one-agree {s} {t} p i hp hi room a =
     tables-agree _ _ (record {
-      counters = λ r g q w. ap₂ (λ (x y : ℕ). pick (eqb p r) (max x y) x) (at (counter r g q) w)
-          (at (stamp (s (fifo p i)) g q) (omega (arith, low, lg, lq)) ∙ ap (λ (x : ℕ). t (stamp x g q)) em);
-      sequences = λ r g. at (sequence r g);
-      stamps = λ m g q. at (stamp m g q);
-      numbers = λ m g. at (number m g);
+      counters = λ r g q w. ap₂ (λ (x y : ℕ). pick (eqb p r) (max x y) x) (same a (counter r g q) w)
+          (same a (stamp (s (fifo p i)) g q) (hm, w .1, w .2) ∙ ap (λ (x : ℕ). t (stamp x g q)) em);
+      sequences = λ r g. same a (sequence r g);
+      stamps = λ m g q. same a (stamp m g q);
+      numbers = λ m g. same a (number m g);
     })
     (put-agree (delivered p (s (sender (s (fifo p i))))) (delivered p (t (sender (t (fifo p i))))) _ _
     (ap (delivered p) eq)
-    (at (stamp (s (fifo p i)) (s (group p)) (s (sender (s (fifo p i))))) (omega (arith, low, lg, lq))
-    ∙ ap₂ (λ (g q : ℕ). t (stamp (s (fifo p i)) g q)) (at (group p) hp) eq
-    ∙ ap (λ (x : ℕ). t (stamp x (t (group p)) (t (sender (t (fifo p i)))))) em)
+    (stamp-agree a p hp (s (fifo p i)) (s (sender (s (fifo p i)))) hm (a .at (sender (s (fifo p i))) hm .1)
+    ∙ ap₂ (λ (x q : ℕ). t (stamp x (t (group p)) q)) em eq) tt
     (put-agree (causal-length p) (causal-length p) (s (causal-length p) + 1) (t (causal-length p) + 1) refl
-    (ap (λ (n : ℕ). n + 1) en)
+    (ap (λ (n : ℕ). n + 1) en) (omega arith)
     (put-agree (causal p (s (causal-length p))) (causal p (t (causal-length p))) (s (fifo p i)) (t (fifo p i))
-    (ap (causal p) en)
-    em (z .agree))))
+    (ap (causal p) en) em tt a)))
   where
-    h : Sane s
-    h = z .sane
-
-    at : (c : Cell) → Within c → s c ≡ t c
-    at = z .agree .same
+    hm : s (fifo p i) < 64
+    hm = a .at (fifo p i) (hp, hi) .1
 
     em : s (fifo p i) ≡ t (fifo p i)
-    em = item-agree (z .agree) h p hp i hi
+    em = same a (fifo p i) (hp, hi)
 
     en : s (causal-length p) ≡ t (causal-length p)
-    en = at (causal-length p) hp
-
-    low : s (fifo p i) < 64
-    low = omega (arith, h .logged p i hp hi, h .counts)
-
-    lg : s (group p) < 8
-    lg = h .groups p hp
-
-    lq : s (sender (s (fifo p i))) < 16
-    lq = h .senders (s (fifo p i)) (h .logged p i hp hi)
+    en = same a (causal-length p) hp
 
     eq : s (sender (s (fifo p i))) ≡ t (sender (t (fifo p i)))
-    eq = at (sender (s (fifo p i))) (omega (arith, low)) ∙ ap (λ (x : ℕ). t (sender x)) em
+    eq = same a (sender (s (fifo p i))) hm ∙ ap (λ (x : ℕ). t (sender x)) em
 
--- the causal log of p is one longer, and no other log
-one-long : (s : State) (p i : ℕ) → causal-one s p i (causal-length p) ≡ s (causal-length p) + 1
-unfolding causal-one merge with-tables put
-one-long s p i = put-same s (causal-length p) (causal-length p) (s (causal-length p) + 1) refl
-
--- no other causal log grows
-other-length : (s : State) (p i r : ℕ) → p ≢ r → causal-one s p i (causal-length r) ≡ s (causal-length r)
-unfolding causal-one merge with-tables put
-other-length s p i r n =
-    put-other s (causal-length p) (causal-length r) (s (causal-length p) + 1) (λ e. n (cc))
-
--- a causal delivery keeps the bounds
-sane-one : {s : State} (p i : ℕ) → p < 16 → s (causal-length p) < s (fifo-length p) → Sane s
-    → Sane (causal-one s p i)
-unfolding causal-one merge with-tables put
-sane-one {s} p i hp room h = record {
-  sizes = h .sizes;
-  counts = h .counts;
-  groups = h .groups;
-  senders = h .senders;
-  logged = h .logged;
-  listed = h .listed;
-  causals = at-or-off p (λ x. x < 16 → causal-one s p i (causal-length x) ≤ s (fifo-length x))
-      (λ _. omega (arith, one-long s p i)) (λ x n hx. omega (arith, other-length s p i x n, h .causals x hx));
-}
-
--- two states of a cascade at p that agree, with p's FIFO log of length n and c messages
-record Pair (p n c : ℕ) (s t : State) : Type 0 where
-  pub both : Both s t
-  pub long : s (fifo-length p) ≡ n
-  pub total : s count ≡ c
-
--- with k causal deliveries left
-record Turns (p n c k : ℕ) (s t : State) : Type 0 where
-  pub pair : Pair p n c s t
-  pub room : s (causal-length p) + k ≤ n
-
--- and leaves the FIFO log and the count
-one-front : (p : ℕ) (s : State) (i : ℕ)
-    → (causal-one s p i (fifo-length p) ≡ s (fifo-length p)) × (causal-one s p i count ≡ s count)
-unfolding causal-one merge with-tables put
-one-front p s i = (refl, refl)
+-- with k turns left, and room for them in the log whose length stands in a cell
+record Turns (c : Cell) (k : ℕ) (s t : State) : Type 0 where
+  pub agree : Agree s t
+  pub room : s c + k ≤ 64
 
 -- all causal deliveries
-causal-pair : {p n c : ℕ} {s t : State} → p < 16 → Pair p n c s t
-    → Pair p n c (causal-all s p) (causal-all t p)
-unfolding causal-all
-causal-pair {p} {n} {c} {s} {t} hp z =
-    subst
-    (λ (k : ℕ). Pair p n c (loop bound test act (s (fifo-length p) - s (causal-length p)) s)
-    (loop bound test act k t))
-    (ap₂ (λ (x y : ℕ). x - y) (z .both .agree .same (fifo-length p) hp)
-    (z .both .agree .same (causal-length p) hp))
-    (loop-related bound test act (Turns p n c) (Pair p n c) (λ k u v r. r .pair)
-    (λ k u v r. r .pair .both .agree .same (fifo-length p) hp)
-    (λ k u v r i l. deliverable-agree (r .pair .both .agree) (r .pair .both .sane) p hp i l)
+causal-agree : {s t : State} (p : ℕ) → p < 16 → Agree s t → Agree (causal-all s p) (causal-all t p)
+unfolding causal-all causal-delivered
+causal-agree {s} {t} p hp a =
+    subst (λ (k : ℕ). Agree (turns (s (fifo-length p) - s (causal-length p)) s) (turns k t))
+    (ap₂ (λ (x y : ℕ). x - y) (same a (fifo-length p) hp) (same a (causal-length p) hp))
+    (loop-related (λ u. u (fifo-length p)) (λ u. deliverable-at u p) (λ u. causal-one u p)
+    (Turns (causal-length p)) Agree (λ k u v r. r .agree) (λ k u v r. same (r .agree) (fifo-length p) hp)
+    (λ k u v r i l. deliverable-agree (r .agree) p hp i (item-low u v (r .agree) i l))
     (λ k u v i l e r. record {
-      pair = record {
-        both = record {
-          agree = one-agree p i hp l (r .pair .both);
-          sane = sane-one p i hp (omega (arith, r .room, r .pair .long)) (r .pair .both .sane);
-        };
-        long = one-front p u i .0 ∙ r .pair .long;
-        total = one-front p u i .1 ∙ r .pair .total;
-      };
-      room = omega (arith, one-long u p i, r .room);
+      agree = one-agree p i hp (item-low u v (r .agree) i l) (omega (arith, r .room)) (r .agree);
+      room = omega (arith, ap (λ (o : Process). o .causal-length) (causal-one-here u p i), r .room);
     })
-    (s (fifo-length p) - s (causal-length p)) s t
-    (record { pair = z; room = omega (arith, z .long, z .both .sane .causals p hp) }))
-  where
-    bound : State → ℕ
-    bound u = u (fifo-length p)
-
-    test : State → ℕ → Bool
-    test u = deliverable-at u p
-
-    act : State → ℕ → State
-    act u = causal-one u p
-
--- ---- the OKs
-send-pair : {p n c : ℕ} {s t : State} (q m : ℕ) → p < 16 → m < c → Pair p n c s t
-    → Pair p n c (send-ok s p q m) (send-ok t p q m)
-unfolding send-ok due put
-send-pair {p} {n} {c} {s} {t} q m hp hm z = record {
-  both = record {
-    agree = pick-agree (due s p q m) (due t p q m) due-agree
-        (put-agree (flight m 2 p) (flight m 2 p) (addressees s m) (addressees t m) refl
-        (all-agree (z .both .agree) (h .sizes) m l64)
-        (z .both .agree)) (z .both .agree);
-    sane = sane-same s _ (same (due s p q m)) h;
-  };
-  long = ap (λ (l : Limits). l .fifo-length p) (same (due s p q m)) ∙ z .long;
-  total = ap (λ (l : Limits). l .count) (same (due s p q m)) ∙ z .total;
-}
-  where
-    h : Sane s
-    h = z .both .sane
-
-    low : m < s count
-    low = omega (arith, z .total)
-
-    l64 : m < 64
-    l64 = omega (arith, low, h .counts)
-
-    due-agree : due s p q m ≡ due t p q m
-    due-agree =
-        ap₂ (λ (x y : Bool). x && y)
-        (ap₂ (λ (x y : ℕ). eqb x 1 && eqb y q) (z .both .agree .same (held p m) (hp, l64))
-        (z .both .agree .same (sender m) l64))
-        (turn-agree (z .both .agree) h p hp m low)
-
-    same : (b : Bool) → limits (pick b (put s (flight m 2 p) (addressees s m)) s) ≡ limits s
-    same true = refl
-    same false = refl
-
--- all of the OKs
-oks-pair : {p n c : ℕ} {s t : State} (q k : ℕ) → p < 16 → k ≤ c → Pair p n c s t
-    → Pair p n c (send-oks s p q k) (send-oks t p q k)
-unfolding send-oks
-oks-pair q zero hp l z = z
-oks-pair q (suc k) hp l z = send-pair q k hp (omega arith) (oks-pair q k hp (omega arith) z)
-
--- ---- a FIFO delivery
-module _ (s : State) (p m : ℕ) where
-  long-here : appended s p m (fifo-length p) ≡ s (fifo-length p) + 1
-  unfolding appended put
-  long-here = put-same s (fifo-length p) (fifo-length p) (s (fifo-length p) + 1) refl
-
-  -- no other FIFO log grows
-  long-there : (r : ℕ) → p ≢ r → appended s p m (fifo-length r) ≡ s (fifo-length r)
-  unfolding appended put
-  long-there r n = put-other s (fifo-length p) (fifo-length r) (s (fifo-length p) + 1) (λ e. n (cc))
-
-  -- an old one, where the log of r is not p's, or i is below its length
-  item-old : (r i : ℕ) → (p ≡ r → i < s (fifo-length p)) → appended s p m (fifo r i) ≡ s (fifo r i)
-  unfolding appended put
-  item-old r i old = put-other s (fifo p (s (fifo-length p))) (fifo r i) m (λ e.
-      let pr : p ≡ r = cc in
-      let ni : s (fifo-length p) ≡ i = cc in
-      omega (arith, old pr))
-
-  -- a message appended keeps the bounds
-  sane-appended : p < 16 → m < s count → s (fifo-length p) < s count → Sane s → Sane (appended s p m)
-  unfolding appended put
-  sane-appended hp hm room h = record {
-    sizes = h .sizes;
-    counts = h .counts;
-    groups = h .groups;
-    senders = h .senders;
-    logged =
-        λ r i hr hi. at-or-off p
-        (λ x. x < 16 → i < appended s p m (fifo-length x) → appended s p m (fifo x i) < s count)
-        (λ _ l. here i l) (λ x n hx l. subst (λ (y : ℕ). y < s count) (sym (item-old x i (λ e. absurd (n e))))
-        (h .logged x i hx (omega (arith, long-there x n)))) r hr hi;
-    listed = at-or-off p (λ x. x < 16 → appended s p m (fifo-length x) ≤ s count)
-        (λ _. omega (arith, long-here)) (λ x n hx. omega (arith, long-there x n, h .listed x hx));
-    causals = at-or-off p (λ x. x < 16 → s (causal-length x) ≤ appended s p m (fifo-length x))
-        (λ _. omega (arith, long-here, h .causals p hp))
-        (λ x n hx. omega (arith, long-there x n, h .causals x hx));
-  }
-    where
-      here : (i : ℕ) → i < appended s p m (fifo-length p) → appended s p m (fifo p i) < s count
-      here i l = put-at s (fifo p (s (fifo-length p))) (fifo p i) m (λ v. v < s count) (λ _. hm)
-          (λ n. h .logged p i hp (below n))
-        where
-          below : (fifo p (s (fifo-length p)) ≡ fifo p i → ⊥) → i < s (fifo-length p)
-          below n = go (ℕ-discrete (s (fifo-length p)) i)
-            where
-              go : Dec (s (fifo-length p) ≡ i) → i < s (fifo-length p)
-              go (yes e) = absurd (n (ap (fifo p) e))
-              go (no d) = omega (arith, long-here)
-
-  -- and the count
-  app-count : appended s p m count ≡ s count
-  unfolding appended put
-  app-count = refl
-
--- a message appended
-append-pair : {p n c : ℕ} {s t : State} (m : ℕ) → p < 16 → m < c → n < c → Pair p n c s t
-    → Pair p (n + 1) c (appended s p m) (appended t p m)
-unfolding appended
-append-pair {p} {n} {c} {s} {t} m hp hm hn z = record {
-  both = record {
-    agree =
-        put-agree (fifo-length p) (fifo-length p) (s (fifo-length p) + 1) (t (fifo-length p) + 1) refl
-        (ap (λ (x : ℕ). x + 1) el)
-        (put-agree (fifo p (s (fifo-length p))) (fifo p (t (fifo-length p))) m m (ap (fifo p) el) refl
-        (z .both .agree));
-    sane =
-        sane-appended s p m hp (omega (arith, z .total)) (omega (arith, z .total, z .long)) (z .both .sane);
-  };
-  long = long-here s p m ∙ ap (λ (x : ℕ). x + 1) (z .long);
-  total = app-count s p m ∙ z .total;
-}
-  where
-    el : s (fifo-length p) ≡ t (fifo-length p)
-    el = z .both .agree .same (fifo-length p) hp
-
--- next raised
-next-pair : {p n c : ℕ} {s t : State} (q : ℕ) → p < 16 → q < 16 → Pair p n c s t
-    → Pair p n c (raised-next s p q) (raised-next t p q)
-unfolding raised-next put
-next-pair {p} {n} {c} {s} {t} q hp hq z = record {
-  both = record {
-    agree = put-agree (next p q) (next p q) (s (next p q) + 1) (t (next p q) + 1) refl
-        (ap (λ (x : ℕ). x + 1) (z .both .agree .same (next p q) (hp, hq))) (z .both .agree);
-    sane = sane-same s _ refl (z .both .sane);
-  };
-  long = z .long;
-  total = z .total;
-}
-
--- a turn
-fifo-pair : {p n c : ℕ} {s t : State} (m : ℕ) → p < 16 → m < c → n < c → Pair p n c s t
-    → Pair p (n + 1) c (fifo-one s p m) (fifo-one t p m)
-unfolding fifo-one
-fifo-pair {p} {n} {c} {s} {t} m hp hm hn z =
-    let q : ℕ = s (sender m) in
-    let y =
-    next-pair q hp (z .both .sane .senders m (omega (arith, z .total)))
-    (causal-pair hp (append-pair m hp hm hn z)) in
-    let u : ℕ → State = λ k. raised-next (causal-all (appended t p m) p) p k in
-    let all =
-    oks-pair q (raised-next (causal-all (appended s p m) p) p q count) hp (omega (arith, y .total)) y in
-    subst (λ (k : ℕ). Pair p (n + 1) c (fifo-one s p m) (send-oks (u k) p k (u k count)))
-    (z .both .agree .same (sender m) (omega (arith, z .total, z .both .sane .counts)))
-    (subst (λ (k : ℕ). Pair p (n + 1) c (fifo-one s p m) (send-oks (u q) p q k))
-    (y .both .agree .same count tt) all)
-
--- ---- the cascade, with k FIFO deliveries left
-record Deliveries (p c k : ℕ) (s t : State) : Type 0 where
-  pub here : ℕ
-  pub pair : Pair p here c s t
-  pub room : here + k ≤ c
-
--- the cascade
-cascade-both : {s t : State} (p : ℕ) → p < 16 → Both s t → Both (cascade s p) (cascade t p)
-unfolding cascade
-cascade-both {s} {t} p hp z =
-    subst (λ (k : ℕ). Both (loop bound test act (s count - s (fifo-length p)) s) (loop bound test act k t))
-    (ap₂ (λ (x y : ℕ). x - y) (z .agree .same count tt) (z .agree .same (fifo-length p) hp))
-    (loop-related bound test act (Deliveries p (s count)) Both (λ k u v r. r .pair .both)
-    (λ k u v r. r .pair .both .agree .same count tt)
-    (λ k u v r i l. ready-agree (r .pair .both .agree) (r .pair .both .sane) p hp i l)
-    (λ k u v i l e r. record {
-      here = r .here + 1;
-      pair = fifo-pair i hp (omega (arith, r .pair .total)) (omega (arith, r .room)) (r .pair);
-      room = omega (arith, r .room);
-    })
-    (s count - s (fifo-length p)) s t (record {
-      here = s (fifo-length p);
-      pair = record { both = z; long = refl; total = refl };
-      room = omega (arith, z .sane .listed p hp);
+    (s (fifo-length p) - s (causal-length p)) s t (record {
+      agree = a;
+      room = omega (arith, a .at (fifo-length p) hp .1, a .at (causal-length p) hp .1);
     }))
   where
-    bound : State → ℕ
-    bound u = u count
+    turns : ℕ → State → State
+    turns k u = loop (λ u. u (fifo-length p)) (λ u. deliverable-at u p) (λ u. causal-one u p) k u
 
-    test : State → ℕ → Bool
-    test u = ready u p
+    item-low : (u v : State) → Agree u v → (i : ℕ) → i < u (fifo-length p) → i < 64
+    item-low u v b i l = omega (arith, b .at (fifo-length p) hp .1)
 
-    act : State → ℕ → State
-    act u = fifo-one u p
+-- ---- the OKs
+oks-agree : {s t : State} (p q k : ℕ) → p < 16 → k ≤ 64 → Agree s t
+    → Agree (send-oks s p q k) (send-oks t p q k)
+unfolding send-oks send-ok
+oks-agree p q zero hp l a = a
+oks-agree {s} {t} p q (suc k) hp l a =
+    let b = oks-agree p q k hp (omega arith) a in
+    pick-agree (due (send-oks s p q k) p q k) (due (send-oks t p q k) p q k) (due-agree b p hp q k l)
+    (put-agree (flight k 2 p) (flight k 2 p) _ _ refl (all-agree b k l) tt b) b
+
+-- ---- a FIFO delivery
+fifo-agree : {s t : State} (p m : ℕ) → p < 16 → m < 64 → s (fifo-length p) < 64 → Agree s t
+    → Agree (fifo-one s p m) (fifo-one t p m)
+unfolding fifo-one appended raised-next
+fifo-agree {s} {t} p m hp hm room a =
+    subst (λ (k : ℕ). Agree (fifo-one s p m) (send-oks (u k) p k (u k count))) (same a (sender m) hm)
+    (subst (λ (k : ℕ). Agree (fifo-one s p m) (send-oks (u q) p q k)) (same z count tt)
+    (oks-agree p q _ hp (z .at count tt .1) z))
+  where
+    q : ℕ
+    q = s (sender m)
+
+    u : ℕ → State
+    u k = raised-next (causal-all (appended t p m) p) p k
+
+    el : s (fifo-length p) ≡ t (fifo-length p)
+    el = same a (fifo-length p) hp
+
+    y : Agree (causal-all (appended s p m) p) (causal-all (appended t p m) p)
+    y = causal-agree p hp
+        (put-agree (fifo-length p) (fifo-length p) (s (fifo-length p) + 1) (t (fifo-length p) + 1) refl
+        (ap (λ (x : ℕ). x + 1) el) (omega arith)
+        (put-agree (fifo p (s (fifo-length p))) (fifo p (t (fifo-length p))) m m (ap (fifo p) el) refl hm a))
+
+    z : Agree (raised-next (causal-all (appended s p m) p) p (s (sender m))) (u (s (sender m)))
+    z = put-agree (next p q) (next p q) _ _ refl
+        (ap (λ (x : ℕ). x + 1) (same y (next p q) (hp, a .at (sender m) hm .1))) tt y
+
+-- ---- the cascade
+cascade-agree : {s t : State} (p : ℕ) → p < 16 → Agree s t → Agree (cascade s p) (cascade t p)
+unfolding cascade
+cascade-agree {s} {t} p hp a =
+    subst (λ (k : ℕ). Agree (turns (s count - s (fifo-length p)) s) (turns k t))
+    (ap₂ (λ (x y : ℕ). x - y) (same a count tt) (same a (fifo-length p) hp))
+    (loop-related (λ u. u count) (λ u. ready u p) (λ u. fifo-one u p) (Turns (fifo-length p)) Agree
+    (λ k u v r. r .agree) (λ k u v r. same (r .agree) count tt)
+    (λ k u v r m l. ready-agree (r .agree) p hp m (message-low (r .agree) m l))
+    (λ k u v m l e r. record {
+      agree = fifo-agree p m hp (message-low (r .agree) m l) (omega (arith, r .room)) (r .agree);
+      room = omega (arith, ap (λ (f : Front). f .fifo-length) (fifo-one-front u p m), r .room);
+    })
+    (s count - s (fifo-length p)) s t (record {
+      agree = a;
+      room = omega (arith, a .at count tt .1, a .at (fifo-length p) hp .1);
+    }))
+  where
+    turns : ℕ → State → State
+    turns k u = loop (λ u. u count) (λ u. ready u p) (λ u. fifo-one u p) k u
 
 -- ---- the steps
-leave-both : {s t : State} (k m q p : ℕ) → k < 3 → m < 64 → q < 16 → Both s t
-    → Both (leave s k m q p) (leave t k m q p)
-unfolding leave put
-leave-both {s} {t} k m q p hk hm hq z = record {
-  agree =
-      put-agree (flight m k q) (flight m k q) (without (s (flight m k q)) p) (without (t (flight m k q)) p)
-      refl
-      (ap (λ (x : ℕ). without x p) (z .agree .same (flight m k q) (hm, hk, hq))) (z .agree);
-  sane = sane-same s _ refl (z .sane);
-}
+pub leave-agree : {s t : State} (k m q p : ℕ) → k < 3 → m < 64 → q < 16 → Agree s t
+    → Agree (leave s k m q p) (leave t k m q p)
+unfolding leave
+leave-agree k m q p hk hm hq a =
+    put-agree (flight m k q) (flight m k q) _ _ refl
+    (ap (λ (x : ℕ). without x p) (same a (flight m k q) (hm, hk, hq))) tt a
 
 -- a mark
-mark-both : {s t : State} (k m q p : ℕ) → m < 64 → p < 16 → Both s t → Both (mark s k m q p) (mark t k m q p)
-unfolding mark put
-mark-both {s} {t} k m q p hm hp z = record {
-  agree = pick-agree (eqb k 2) (eqb k 2) refl
-      (put-agree (marks p m) (marks p m) (with (s (marks p m)) q) (with (t (marks p m)) q) refl
-      (ap (λ (x : ℕ). with x q) (z .agree .same (marks p m) (hp, hm))) (z .agree)) (z .agree);
-  sane = sane-same s _ (mark-cases (λ u. limits u ≡ limits s) s k m q p (λ _. refl) (λ _. refl)) (z .sane);
-}
+mark-agree : {s t : State} (k m q p : ℕ) → m < 64 → p < 16 → Agree s t
+    → Agree (mark s k m q p) (mark t k m q p)
+unfolding mark
+mark-agree k m q p hm hp a =
+    pick-agree (eqb k 2) (eqb k 2) refl
+    (put-agree (marks p m) (marks p m) _ _ refl (ap (λ (x : ℕ). with x q) (same a (marks p m) (hp, hm))) tt a)
+    a
 
 -- a message held
-hold-both : {s t : State} (p m : ℕ) → p < 16 → m < s count → Both s t → Both (hold s p m) (hold t p m)
-unfolding hold put
-hold-both {s} {t} p m hp hm z = record {
-  agree =
-      pick-agree (eqb (s (held p m)) 1) (eqb (t (held p m)) 1)
-      (ap (λ (x : ℕ). eqb x 1) (z .agree .same (held p m) (hp, low))) (z .agree)
-      (put-agree (flight m (pick (in-turn s p m) 2 1) p) (flight m (pick (in-turn t p m) 2 1) p)
-      (addressees s m) (addressees t m)
-      (ap (λ (b : Bool). flight m (pick b 2 1) p) (turn-agree (z .agree) (z .sane) p hp m hm))
-      (all-agree (z .agree) (z .sane .sizes) m low)
-      (put-agree (held p m) (held p m) 1 1 refl refl (z .agree)));
-  sane = sane-same s _ (hold-cases (λ u. limits u ≡ limits s) s p m (λ _. refl) (λ _. refl)) (z .sane);
-}
-  where
-    low : m < 64
-    low = omega (arith, z .sane .counts)
-
--- the message is one still
-marked-low : (s : State) (k m q p : ℕ) → m < s count → m < mark (leave s k m q p) k m q p count
-unfolding leave put
-marked-low s k m q p h = mark-cases (λ t. m < t count) (leave s k m q p) k m q p (λ _. h) (λ _. h)
+hold-agree : {s t : State} (p m : ℕ) → p < 16 → m < 64 → Agree s t → Agree (hold s p m) (hold t p m)
+unfolding hold
+hold-agree {s} {t} p m hp hm a =
+    pick-agree (eqb (s (held p m)) 1) (eqb (t (held p m)) 1) (held-agree a p hp m hm) a
+    (put-agree (flight m (pick (in-turn s p m) 2 1) p) (flight m (pick (in-turn t p m) 2 1) p) _ _
+    (ap (λ (b : Bool). flight m (pick b 2 1) p) (turn-agree a p hp m hm)) (all-agree a m hm) tt
+    (put-agree (held p m) (held p m) 1 1 refl refl tt a))
 
 -- an arrival
-pub arrival-both : {s t : State} (k m q p : ℕ) → k < 3 → m < s count → q < 16 → p < 16 → Both s t
-    → Both (arrival s k m q p) (arrival t k m q p)
+pub arrival-agree : {s t : State} (k m q p : ℕ) → k < 3 → m < 64 → q < 16 → p < 16 → Agree s t
+    → Agree (arrival s k m q p) (arrival t k m q p)
 unfolding arrival
-arrival-both {s} {t} k m q p hk hm hq hp z =
-    let low : m < 64 = omega (arith, z .sane .counts) in
-    cascade-both p hp
-    (hold-both p m hp (marked-low s k m q p hm)
-    (mark-both k m q p low hp (leave-both k m q p hk low hq z)))
+arrival-agree k m q p hk hm hq hp a =
+    cascade-agree p hp (hold-agree p m hp hm (mark-agree k m q p hm hp (leave-agree k m q p hk hm hq a)))
 
 -- a trust step
-pub trust-both : {s t : State} (p set : ℕ) → p < 16 → Both s t → Both (trust-set s p set) (trust-set t p set)
-unfolding trust-set put
-trust-both {s} {t} p set hp z = cascade-both p hp (record {
-  agree = put-agree (trust p) (trust p) set set refl refl (z .agree);
-  sane = sane-same s _ refl (z .sane);
-})
+pub trust-agree : {s t : State} (p set : ℕ) → p < 16 → Agree s t → Agree (trust-set s p set) (trust-set t p set)
+unfolding trust-set
+trust-agree p set hp a = cascade-agree p hp (put-agree (trust p) (trust p) set set refl refl tt a)
 
 -- a crash
 pub crash-agree : {s t : State} (p : ℕ) → Agree s t → Agree (crash s p) (crash t p)
 unfolding crash
-crash-agree p a = put-agree (up p) (up p) 0 0 refl refl a
-
--- a loss
-pub leave-agree : {s t : State} (k m q p : ℕ) → k < 3 → m < 64 → q < 16 → Both s t
-    → Agree (leave s k m q p) (leave t k m q p)
-leave-agree k m q p hk hm hq z = leave-both k m q p hk hm hq z .agree
+crash-agree p a = put-agree (up p) (up p) 0 0 refl refl tt a
 
 -- ---- a multicast
 raised-agree : {s t : State} (p groups : ℕ) → Agree s t → Agree (raised s p groups) (raised t p groups)
 unfolding raised
-raised-agree {s} {t} p groups a = tables-agree _ _ (record {
+raised-agree p groups a = tables-agree _ _ (record {
   counters =
-      λ r g q w. ap (λ (v : ℕ). pick (eqb p r && eqb p q && bit groups g) (v + 1) v)
-      (a .same (counter r g q) w);
-  sequences = λ r g w. ap (λ (v : ℕ). pick (eqb p r && bit groups g) (v + 1) v) (a .same (sequence r g) w);
-  stamps = λ m g q. a .same (stamp m g q);
-  numbers = λ m g. a .same (number m g);
+      λ r g q w. ap (λ (v : ℕ). pick (eqb p r && eqb p q && bit groups g) (v + 1) v) (same a (counter r g q) w);
+  sequences = λ r g w. ap (λ (v : ℕ). pick (eqb p r && bit groups g) (v + 1) v) (same a (sequence r g) w);
+  stamps = λ m g q. same a (stamp m g q);
+  numbers = λ m g. same a (number m g);
 }) a
 
 -- counters copied onto the message
 stamped-agree : {s t : State} (p m : ℕ) → p < 16 → Agree s t → Agree (stamped s p m) (stamped t p m)
 unfolding stamped
-stamped-agree {s} {t} p m hp a = tables-agree _ _ (record {
-  counters = λ r g q. a .same (counter r g q);
-  sequences = λ r g. a .same (sequence r g);
+stamped-agree p m hp a = tables-agree _ _ (record {
+  counters = λ r g q. same a (counter r g q);
+  sequences = λ r g. same a (sequence r g);
   stamps = λ x g q w.
-      ap₂ (λ (u v : ℕ). pick (eqb m x) u v) (a .same (counter p g q) (omega arith)) (a .same (stamp x g q) w);
-  numbers =
-      λ x g w. ap₂ (λ (u v : ℕ). pick (eqb m x) u v) (a .same (sequence p g) (omega arith))
-      (a .same (number x g) w);
+      ap₂ (λ (u v : ℕ). pick (eqb m x) u v) (same a (counter p g q) (hp, w .1, w .2)) (same a (stamp x g q) w);
+  numbers = λ x g w.
+      ap₂ (λ (u v : ℕ). pick (eqb m x) u v) (same a (sequence p g) (hp, w .1)) (same a (number x g) w);
 }) a
 
 -- the message numbered
-numbered-agree : {s t : State} (p groups : ℕ) → Agree s t → Agree (numbered s p groups) (numbered t p groups)
+numbered-agree : {s t : State} (p groups : ℕ) → p < 16 → s count < 64 → Agree s t
+    → Agree (numbered s p groups) (numbered t p groups)
 unfolding numbered
-numbered-agree {s} {t} p groups a =
-    let e : s count ≡ t count = a .same count tt in
-    put-agree count count (s count + 1) (t count + 1) refl (ap (λ (x : ℕ). x + 1) e)
-    (put-agree (mask (s count)) (mask (t count)) groups groups (ap mask e) refl
-    (put-agree (sender (s count)) (sender (t count)) p p (ap sender e) refl a))
-
--- the number of processes
-numbered-size : (s : State) (p groups m : ℕ)
-    → numbered (stamped (raised s p groups) p m) p groups size ≡ s size
-unfolding numbered stamped raised put with-tables
-numbered-size s p groups m = refl
+numbered-agree {s} {t} p groups hp hc a =
+    let e : s count ≡ t count = same a count tt in
+    put-agree count count (s count + 1) (t count + 1) refl (ap (λ (x : ℕ). x + 1) e) (omega arith)
+    (put-agree (mask (s count)) (mask (t count)) groups groups (ap mask e) refl tt
+    (put-agree (sender (s count)) (sender (t count)) p p (ap sender e) refl hp a))
 
 -- the whole of it
-pub multicast-agree : {s t : State} (p groups : ℕ) → p < 16 → s count < 64 → s size ≤ 16 → Agree s t
+pub multicast-agree : {s t : State} (p groups : ℕ) → p < 16 → s count < 64 → Agree s t
     → Agree (multicast s p groups) (multicast t p groups)
-unfolding multicast posted
-multicast-agree {s} {t} p groups hp hc hz a =
+unfolding multicast posted stamped raised with-tables
+multicast-agree {s} {t} p groups hp hc a =
     subst
     (λ (m : ℕ). Agree (multicast s p groups)
-    (posted (numbered (stamped (raised t p groups) p m) p groups) p m)) (a .same count tt)
-    (let b = numbered-agree p groups (stamped-agree p (s count) hp (raised-agree p groups a)) in
-    put-agree (flight (s count) 0 p) (flight (s count) 0 p) _ _ refl
-    (all-agree b (omega (arith, numbered-size s p groups (s count))) (s count) hc) b)
+    (posted (numbered (stamped (raised t p groups) p m) p groups) p m)) (same a count tt)
+    (put-agree (flight (s count) 0 p) (flight (s count) 0 p) _ _ refl (all-agree b (s count) hc) tt b)
+  where
+    b : Agree (numbered (stamped (raised s p groups) p (s count)) p groups)
+        (numbered (stamped (raised t p groups) p (s count)) p groups)
+    b = numbered-agree p groups hp hc (stamped-agree p (s count) hp (raised-agree p groups a))

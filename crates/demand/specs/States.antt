@@ -26,8 +26,7 @@ use Rattle.agreement.specs.Turns.{Live}
 use Rattle.agreement.specs.Runs.{live-started, During, arrival-during, along-ends, live-run}
 use Rattle.agreement.specs.Agreement.{Calm, Agreed, agrees}
 use Rattle.bound.specs.Potential.{potential}
-use Rattle.bound.specs.Bound.{kept-made, kept-run, reached-potential, ceiling-most}
-use Rattle.bound.specs.Settle.{arrivals, SaysDone, Ended, settle-ends, moved-falls}
+use Rattle.bound.specs.Settle.{arrivals, SaysDone, Ended, settle-ends, moved-falls, reached-low}
 
 -- ---- the settle of a run, with its answer
 unfoldable pub settled : Run State → ℕ → Settled (Run State)
@@ -61,12 +60,6 @@ module _ (setup : List ℕ) (items : List Item) (ok : setup-refusal setup ≡ 0)
   -- what holds of every run
   w : Whole (run on-states (started setup) items)
   w = reached setup items ok
-
-  -- its potential
-  low : potential (run on-states (started setup) items .now) ≤ 33792
-  low =
-      let k = kept-run (started setup) items (kept-made setup ok) in
-      omega (arith, reached-potential (r .now) (k .bounded), ceiling-most (r .now) (k .sound))
 
   -- a settle ends: of any run that keeps P under the arrivals of letters that can move
   ended : (P : Run State → Type 0) → ((t : Run State) → P t → Whole t)
@@ -117,7 +110,7 @@ module _ (setup : List ℕ) (items : List Item) (ok : setup-refusal setup ≡ 0)
         agrees (d .whole)
         (subst (λ (f : ℕ → Bool). Live f (t .now))
         (fun-ext (λ q. ap (λ (g : Ground). eqb (g .up q) 1) (sym (d .ground-is)))) (d .lives))
-        (calm (t .now) (e .finishes (omega (arith, low)) .1)) (fair-after (d .ground-is))
+        (calm (t .now) (e .finishes (omega (arith, reached-low setup items ok)) .1)) (fair-after (d .ground-is))
       where
         t : Run State
         t = settled (run on-states (started setup) items) b .world
@@ -136,8 +129,8 @@ module _ (setup : List ℕ) (items : List Item) (ok : setup-refusal setup ≡ 0)
   pub demand-3-states : Demand3States (started setup) items
   demand-3-states = record {
     whole = w;
-    bounded = λ b. omega (arith, plain b .few, low);
-    finishes = λ b l. plain b .finishes (omega (arith, low)) .0;
+    bounded = λ b. omega (arith, plain b .few, reached-low setup items ok);
+    finishes = λ b l. plain b .finishes (omega (arith, reached-low setup items ok)) .0;
     agreed = agreed-after;
   }
     where

@@ -4,7 +4,7 @@
 -- the demand names it. It is the demand over states (States), read off the words of the run's state (Words).
 -- Assumes nothing.
 use mathlib.Core.Path.{_≡_, sym, ap, _∙_, subst, subst₂}
-use mathlib.Core.Bool.{true}
+use mathlib.Core.Bool.{true, false}
 use mathlib.Core.List.{List}
 use Prim.Native.Nat.{ℕ, _≤_, _<_}
 use native.Mathlib.Omega.{arith}
@@ -27,12 +27,14 @@ use Rattle.world.specs.Demand.{CausalOrder, Agreed, AtMost, done-in, stopped-in
 use Rattle.keeps.specs.Keeps.{run-sound, fresh-sound}
 use Rattle.order.specs.Precedence.{cast-low}
 use Rattle.order.specs.Runs.{Whole}
-use Rattle.order.specs.Order.{Fifo, causal-past, past-causal, causal-once, causal-ordered}
+use Rattle.order.specs.Cascade.{Fifo}
+use Rattle.order.specs.Order.{causal-past, past-causal, causal-once, causal-ordered}
 use Rattle.agreement.specs.Agreement.{Agreed as AgreedStates}
 use Rattle.bound.specs.Settle.{arrivals, SaysDone as EndsDone}
+use Rattle.carried.specs.Calls.{log-carried}
 use Rattle.carried.specs.Carried.{written, run-carried, setup-taken, start-carried}
 use Rattle.demand.specs.States.{settled, Demand3States, demand-3-states}
-use Rattle.demand.specs.Words.{listed-in, in-listed, size-read, to-read, fifo-read, causal-read, settled-both, settled-carried, reply-carried, fair-read, run-size, along-read}
+use Rattle.demand.specs.Words.{listed-in, in-listed, size-read, to-read, settled-sound, settled-carried, answer-carried, fair-read, run-size, along-read}
 
 -- ---- conclusions 1 and 2
 module _ (r : Run State) (h : Sound (r .now)) (w : Whole r) where
@@ -51,13 +53,13 @@ module _ (r : Run State) (h : Sound (r .now)) (w : Whole r) where
   causal-order = record {
     exact = λ p m l. let hp = process-low p l in (
       (λ c.
-          let y = causal-past w p m (listed-in (causal-read (r .now) h p hp) c) in (
-            in-listed (fifo-read (r .now) h p hp) (y .0),
-            λ x b t. in-listed (fifo-read (r .now) h p hp) (y .1 x b (sym (to-same x m p b hp) ∙ t)),
+          let y = causal-past w p m (listed-in (log-carried (r .now) h p hp true) c) in (
+            in-listed (log-carried (r .now) h p hp false) (y .0),
+            λ x b t. in-listed (log-carried (r .now) h p hp false) (y .1 x b (sym (to-same x m p b hp) ∙ t)),
           )),
-      (λ y. in-listed (causal-read (r .now) h p hp)
-          (past-causal w p m (listed-in (fifo-read (r .now) h p hp) (y .0))
-          (λ x b t. listed-in (fifo-read (r .now) h p hp) (y .1 x b (to-same x m p b hp ∙ t))))),
+      (λ y. in-listed (log-carried (r .now) h p hp true)
+          (past-causal w p m (listed-in (log-carried (r .now) h p hp false) (y .0))
+          (λ x b t. listed-in (log-carried (r .now) h p hp false) (y .1 x b (to-same x m p b hp ∙ t))))),
     );
     once = λ p l i j a k e.
         let hp = process-low p l in
@@ -72,13 +74,13 @@ module _ (r : Run State) (h : Sound (r .now)) (w : Whole r) where
     where
       long : (p : ℕ) → p < r .now size
           → length (log-words (encode (r .now)) p true) ≡ r .now (causal-length p)
-      long p hp = ap length (causal-read (r .now) h p hp)
+      long p hp = ap length (log-carried (r .now) h p hp true)
           ∙ length-tabulate (r .now (causal-length p)) (λ i. r .now (causal p i))
 
       item : (p : ℕ) (hp : p < r .now size) (i : ℕ) → i < r .now (causal-length p)
           → getD (log-words (encode (r .now)) p true) i 0 ≡ r .now (causal p i)
       item p hp i l =
-          ap (λ (xs : List ℕ). getD xs i 0) (causal-read (r .now) h p hp)
+          ap (λ (xs : List ℕ). getD xs i 0) (log-carried (r .now) h p hp true)
           ∙ getD-tabulate (r .now (causal-length p)) (λ i. r .now (causal p i)) i 0 l
 
 -- ---- conclusion 3: agreement
@@ -103,16 +105,16 @@ module _ (s : State) (h : Sound s) (a : AgreedStates s) where
         let m64 : m < 64 = omega (arith, count-high s h) in
         let hq : q < s size = omega (arith, u .0, size-read s h) in
         let from = ap (λ (x : ℕ). view (encode s) (up x)) (get-encode s (sender m) m64) in
-        in-listed (fifo-read s h q hq)
+        in-listed (log-carried s h q hq false)
         (a .valid m q hm (up-read (s (sender m)) (sender-low s h m hm) (sym from ∙ us .1))
         (hq, up-read q hq (u .1))
         (sym (to-read s h m q m64 (low q hq)) ∙ t));
     uniform = λ m p q l f u t.
         let hp : p < s size = omega (arith, size-read s h) in
         let hq : q < s size = omega (arith, u .0, size-read s h) in
-        let g = listed-in (fifo-read s h p hp) f in
+        let g = listed-in (log-carried s h p hp false) f in
         let m64 : m < 64 = omega (arith, logged p m hp g, count-high s h) in
-        in-listed (fifo-read s h q hq)
+        in-listed (log-carried s h q hq false)
         (a .uniform m p q hp g (hq, up-read q hq (u .1)) (sym (to-read s h m q m64 (low q hq)) ∙ t));
   }
 
@@ -171,14 +173,14 @@ module _ (setup : List ℕ) (items : List Item) (ok : setup-refusal setup ≡ 0)
       subst SaysDone (sym (reply b)) (says (settled r b .ending) (on-states-3 .finishes b l)),
       subst Agreed
           (sym (ap (λ (x : Run (List ℕ)). settled-words (x .now) b) carried ∙ settled-carried r sound-last b))
-          (agreed-words (settled r b .world .now) (settled-both r sound-last b .worlds .sound-t)
+          (agreed-words (settled r b .world .now) (settled-sound r sound-last b)
           (on-states-3 .agreed (rule-read t) b l)),
     );
   }
     where
       reply : (b : ℕ)
           → settle-reply (run on-words (written (started setup)) items .now) b ≡ gives (settled r b .ending)
-      reply b = ap (λ (x : Run (List ℕ)). settle-reply (x .now) b) carried ∙ reply-carried r sound-last b
+      reply b = ap (λ (x : Run (List ℕ)). settle-reply (x .now) b) carried ∙ answer-carried r sound-last b
 
 -- Demand 3. Why it is true: a process delivers causally only what every other sender's counter allows, and
 -- counters count the multicasts known of; so a message goes in exactly when all that precede it and are to

@@ -40,22 +40,26 @@ hold-cases P s p m old new = go (eqb (s (held p m)) 1) refl
     go true e = old (eqb-true (s (held p m)) 1 e)
     go false e = new (eqb-false (s (held p m)) 1 e)
 
--- the letter of kind k for m from q to u flies
-abbrev pub Flies : State → ℕ → ℕ → ℕ → ℕ → Type 0
-Flies s m k q u = bit (s (flight m k q)) u ≡ true
+-- ---- r holds m; the letter of kind k for m from q to u flies
+abbrev pub Held : State → ℕ → ℕ → Type 0
+Held s r m = s (held r m) ≡ 1
+
+-- the letter flies
+abbrev pub Fly : State → ℕ → ℕ → ℕ → ℕ → Type 0
+Fly s m k q u = bit (s (flight m k q)) u ≡ true
 
 -- ---- a letter leaves flight
 module _ (s : State) (k m q p : ℕ) where
-  pub leave-less : (x j o u : ℕ) → Flies (leave s k m q p) x j o u → Flies s x j o u
+  pub leave-less : (x j o u : ℕ) → Fly (leave s k m q p) x j o u → Fly s x j o u
   unfolding leave
   leave-less x j o u =
       put-at s (flight m k q) (flight x j o) (without (s (flight m k q)) p)
-      (λ v. bit v u ≡ true → Flies s x j o u)
+      (λ v. bit v u ≡ true → Fly s x j o u)
       (λ e z. subst (λ (c : Cell). bit (s c) u ≡ true) e (without-old (s (flight m k q)) p u z)) (λ _ z. z)
 
   -- it is that letter, or it still flies
-  pub leave-flown : (x j o u : ℕ) → Flies s x j o u
-      → ((m ≡ x) × (k ≡ j) × (q ≡ o) × (p ≡ u)) ⊎ Flies (leave s k m q p) x j o u
+  pub leave-flown : (x j o u : ℕ) → Fly s x j o u
+      → ((m ≡ x) × (k ≡ j) × (q ≡ o) × (p ≡ u)) ⊎ Fly (leave s k m q p) x j o u
   unfolding leave
   leave-flown x j o u z =
       put-at s (flight m k q) (flight x j o) (without (s (flight m k q)) p)

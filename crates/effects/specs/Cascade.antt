@@ -6,23 +6,20 @@ use mathlib.Core.Bool.{Bool, true, false, _&&_}
 use mathlib.Core.Logic.{_⊎_, inl, inr, _≢_}
 use Prim.Native.Nat.{ℕ, zero, suc, _+_, _-_, _≤_, _<_, max}
 use native.Mathlib.Decide.{ℕ-discrete}
+use native.Mathlib.Nat.{not-suc-le-zero}
 use native.Mathlib.Omega.{arith}
-use lib.Dec.{eqb, ltb}
-use borrow.Author.Tests.{ne-eqb, eq-eqb, eqb-true, lt-ltb, le-ltb, ltb-true, ltb-false}
-use Rattle.base.specs.Tests.{pick, pick-no, pick-yes, both, both-l, both-r, both-i, bool-cases, clash, eqb-refl}
+use lib.Dec.{eqb}
+use borrow.Author.Tests.{ne-eqb, eq-eqb, eqb-true}
+use Rattle.base.specs.Tests.{pick, pick-no, pick-yes, both, both-l, both-r, bool-cases, clash, eqb-refl}
 use Rattle.base.specs.Bits.{bit, mask-of}
 use Rattle.base.specs.Loop.{loop-keeps}
 use Rattle.world.specs.World.{Cell, size, count, group, counter, sequence, next, delivered, fifo-length, causal-length, held, fifo, causal, sender, stamp, number, flight, State, put}
-use Rattle.world.specs.Layout.{put-same, put-other}
+use Rattle.world.specs.Layout.{put-same, put-other, put-at}
 use Rattle.world.specs.Machine.{with-tables, addressees, in-turn, deliverable-at, merge, causal-one, causal-all, appended, raised-next, due, send-ok, send-oks, fifo-one, ready, cascade}
-use Rattle.keeps.specs.Cascade.{next-before}
+use Rattle.keeps.specs.Next.{next-before}
 use Rattle.effects.specs.Views.{Messages, messages, Process, process, Ground, ground, Still, still, letters}
 
 -- ---- what no part writes
-causal-one-still : (s : State) (p i : ℕ) → still (causal-one s p i) ≡ still s
-unfolding causal-one merge with-tables put
-causal-one-still s p i = refl
-
 -- what a causal delivery at p keeps, all of them keep
 causal-all-keeps : {A : Type 0} (f : State → A) (p : ℕ) → ((t : State) (i : ℕ) → f (causal-one t p i) ≡ f t)
     → (s : State) → f (causal-all s p) ≡ f s
@@ -31,60 +28,34 @@ causal-all-keeps f p one s =
     loop-keeps (λ t. t (fifo-length p)) (λ t. deliverable-at t p) (λ t. causal-one t p) (λ t. f t ≡ f s)
     (λ t i _ _ _ e. one t i ∙ e) (s (fifo-length p) - s (causal-length p)) s refl
 
+-- what an OK of p's keeps, all of them keep
+oks-keep : {A : Type 0} (f : State → A) (p : ℕ) → ((t : State) (m v : ℕ) → f (put t (flight m 2 p) v) ≡ f t)
+    → (s : State) (q k : ℕ) → f (send-oks s p q k) ≡ f s
+unfolding send-oks send-ok
+oks-keep f p one s q zero = refl
+oks-keep f p one s q (suc k) = go (due t p q k) ∙ oks-keep f p one s q k
+  where
+    t : State
+    t = send-oks s p q k
+
+    go : (b : Bool) → f (pick b (put t (flight k 2 p) (addressees t k)) t) ≡ f t
+    go true = one t k (addressees t k)
+    go false = refl
+
 -- all causal deliveries at p
-pub causal-all-still : (s : State) (p : ℕ) → still (causal-all s p) ≡ still s
-causal-all-still s p = causal-all-keeps still p (λ t i. causal-one-still t p i) s
-
--- a message appended to the FIFO log
-pub appended-still : (s : State) (p m : ℕ) → still (appended s p m) ≡ still s
-unfolding appended put
-appended-still s p m = refl
-
--- next raised
-pub next-still : (s : State) (p q : ℕ) → still (raised-next s p q) ≡ still s
-unfolding raised-next put
-next-still s p q = refl
+causal-all-still : (s : State) (p : ℕ) → still (causal-all s p) ≡ still s
+unfolding causal-one merge with-tables put
+causal-all-still s p = causal-all-keeps still p (λ t i. refl) s
 
 -- the OKs are letters, and nothing else
-pub oks-still : (s : State) (p q k : ℕ) → still (send-oks s p q k) ≡ still s
-unfolding send-oks send-ok put
-oks-still s p q zero = refl
-oks-still s p q (suc k) = go (due (send-oks s p q k) p q k) ∙ oks-still s p q k
-  where
-    t : State
-    t = send-oks s p q k
-
-    go : (b : Bool) → still (pick b (put t (flight k 2 p) (addressees t k)) t) ≡ still t
-    go true = refl
-    go false = refl
+oks-still : (s : State) (p q k : ℕ) → still (send-oks s p q k) ≡ still s
+unfolding put
+oks-still s p q k = oks-keep still p (λ t m v. refl) s q k
 
 -- and change no process's record
-pub oks-process : (s : State) (p q k r : ℕ) → process (send-oks s p q k) r ≡ process s r
-unfolding send-oks send-ok put
-oks-process s p q zero r = refl
-oks-process s p q (suc k) r = go (due (send-oks s p q k) p q k) ∙ oks-process s p q k r
-  where
-    t : State
-    t = send-oks s p q k
-
-    go : (b : Bool) → process (pick b (put t (flight k 2 p) (addressees t k)) t) r ≡ process t r
-    go true = refl
-    go false = refl
-
--- a turn of the cascade
-pub fifo-one-still : (s : State) (p m : ℕ) → still (fifo-one s p m) ≡ still s
-unfolding fifo-one
-fifo-one-still s p m =
-    let u : State = causal-all (appended s p m) p in
-    oks-still (raised-next u p (s (sender m))) p (s (sender m)) _ ∙ next-still u p (s (sender m))
-    ∙ causal-all-still (appended s p m) p ∙ appended-still s p m
-
--- the whole cascade
-pub cascade-still : (s : State) (p : ℕ) → still (cascade s p) ≡ still s
-unfolding cascade
-cascade-still s p =
-    loop-keeps (λ t. t count) (λ t. ready t p) (λ t. fifo-one t p) (λ t. still t ≡ still s)
-    (λ t m _ _ _ e. fifo-one-still t p m ∙ e) (s count - s (fifo-length p)) s refl
+oks-process : (s : State) (p q k r : ℕ) → process (send-oks s p q k) r ≡ process s r
+unfolding put
+oks-process s p q k r = oks-keep (λ t. process t r) p (λ t m v. refl) s q k
 
 -- ---- one store, as a choice between two values
 -- the cell d is c just when the test says so
@@ -170,8 +141,9 @@ fifo-started-there s p m r n = λ j. record {
 }
 
 -- and so is what no part writes
-pub fifo-started-still : (s : State) (p m : ℕ) → still (fifo-started s p m) ≡ still s
-fifo-started-still s p m = next-still (appended s p m) p (s (sender m)) ∙ appended-still s p m
+fifo-started-still : (s : State) (p m : ℕ) → still (fifo-started s p m) ≡ still s
+unfolding raised-next appended put
+fifo-started-still s p m = refl
 
 -- and so are the letters
 pub fifo-started-letters : (s : State) (p m : ℕ) → letters (fifo-started s p m) ≡ letters s
@@ -221,18 +193,14 @@ causal-one-there s p i r n = λ j. record {
   sequence = λ g. s (sequence r g);
 }
 
--- a causal delivery sends no letter
-causal-one-letters : (s : State) (p i : ℕ) → letters (causal-one s p i) ≡ letters s
-unfolding causal-one merge with-tables put
-causal-one-letters s p i = refl
-
 -- all of them leave every other record
 pub causal-all-there : (s : State) (p r : ℕ) → p ≢ r → process (causal-all s p) r ≡ process s r
 causal-all-there s p r n = causal-all-keeps (λ t. process t r) p (λ t i. causal-one-there t p i r n) s
 
 -- and send no letter
-pub causal-all-letters : (s : State) (p : ℕ) → letters (causal-all s p) ≡ letters s
-causal-all-letters s p = causal-all-keeps letters p (λ t i. causal-one-letters t p i) s
+causal-all-letters : (s : State) (p : ℕ) → letters (causal-all s p) ≡ letters s
+unfolding causal-one merge with-tables put
+causal-all-letters s p = causal-all-keeps letters p (λ t i. refl) s
 
 -- what of p's own record the causal deliveries leave: the FIFO side
 pub record Front : Type 0 where
@@ -250,14 +218,10 @@ front s p = record {
   next = λ q. s (next p q);
 }
 
--- a causal delivery leaves it
-causal-one-front : (s : State) (p i : ℕ) → front (causal-one s p i) p ≡ front s p
+-- they leave it
+causal-all-front : (s : State) (p : ℕ) → front (causal-all s p) p ≡ front s p
 unfolding causal-one merge with-tables put
-causal-one-front s p i = refl
-
--- and so do all of them
-pub causal-all-front : (s : State) (p : ℕ) → front (causal-all s p) p ≡ front s p
-causal-all-front s p = causal-all-keeps (λ t. front t p) p (λ t i. causal-one-front t p i) s
+causal-all-front s p = causal-all-keeps (λ t. front t p) p (λ t i. refl) s
 
 -- ---- a turn: next may rise before the causal deliveries
 -- the state of a turn before its OKs
@@ -287,6 +251,18 @@ fifo-one-there s p m r n =
 pub fifo-middle-still : (s : State) (p m : ℕ) → still (fifo-middle s p m) ≡ still s
 fifo-middle-still s p m = causal-all-still (fifo-started s p m) p ∙ fifo-started-still s p m
 
+-- so does the turn
+pub fifo-one-still : (s : State) (p m : ℕ) → still (fifo-one s p m) ≡ still s
+fifo-one-still s p m =
+    ap still (fifo-one-is s p m) ∙ oks-still (fifo-middle s p m) p (s (sender m)) _ ∙ fifo-middle-still s p m
+
+-- and the whole cascade
+pub cascade-still : (s : State) (p : ℕ) → still (cascade s p) ≡ still s
+unfolding cascade
+cascade-still s p =
+    loop-keeps (λ t. t count) (λ t. ready t p) (λ t. fifo-one t p) (λ t. still t ≡ still s)
+    (λ t m _ _ _ e. fifo-one-still t p m ∙ e) (s count - s (fifo-length p)) s refl
+
 -- ---- the letters of a turn
 -- what p owes, and to whom, looks at what a cascade keeps, and at next
 due-same : (s t : State) (p q m : ℕ) → still t ≡ still s → process t p ≡ process s p
@@ -301,112 +277,44 @@ pub addressees-same : (s t : State) (m : ℕ) → ground t ≡ ground s → addr
 addressees-same s t m e =
     ap (λ (v : Ground). mask-of (v .size) (λ q. bit (v .messages .mask m) (v .group q))) e
 
--- the letter of kind k for m from r is one of the OKs that p owes for the messages of q below n
-abbrev pub ok-due : State → ℕ → ℕ → ℕ → ℕ → ℕ → ℕ → Bool
-ok-due s p q n m k r = both (both (eqb 2 k) (eqb p r)) (both (ltb m n) (due s p q m))
+-- the letter of kind k for x from r, after p's OKs for the messages of q below n: one of these, or as it was
+data Sent (s : State) (p q n x k r v : ℕ) : Type 0 where
+  ok : 2 ≡ k → p ≡ r → x < n → due s p q x ≡ true → v ≡ addressees s x → Sent s p q n x k r v
+  old : v ≡ s (flight x k r) → (2 ≡ k → p ≡ r → x < n → due s p q x ≡ false) → Sent s p q n x k r v
 
--- one more message, where the letter is not its OK
-below-more : (m n : ℕ) → n ≢ m → ltb m n ≡ ltb m (suc n)
-below-more m n ne = go (ltb m n) refl
+-- one message more, for which it is no OK
+sent-more : {s : State} {p q n x k r v : ℕ} → (2 ≡ k → p ≡ r → n ≡ x → due s p q x ≡ false)
+    → Sent s p q n x k r v → Sent s p q (suc n) x k r v
+sent-more f (ok a b l d e) = ok a b (omega arith) d e
+sent-more {s} {p} {q} {n} {x} {k} {r} f (old e g) = old e (λ a b l. go a b l (ℕ-discrete n x))
   where
-    go : (b : Bool) → ltb m n ≡ b → b ≡ ltb m (suc n)
-    go true e = let l = ltb-true m n e in sym (lt-ltb m (suc n) (omega arith))
-    go false e = let l = ltb-false m n e in sym (le-ltb m (suc n) (omega arith))
+    go : 2 ≡ k → p ≡ r → x < suc n → Dec (n ≡ x) → due s p q x ≡ false
+    go a b l (yes d) = f a b d
+    go a b l (no d) = g a b (omega arith)
 
--- a test that fails in one part
-none : (a b c : Bool) → (b ≡ false) ⊎ (c ≡ false) → both a (both b c) ≡ false
-none false b c z = refl
-none true b c (inl e) = rw e
-none true true c (inr e) = e
-none true false c (inr e) = refl
-
--- after the OKs for the messages below n
-pub oks-letters : (s : State) (p q n m k r : ℕ)
-    → send-oks s p q n (flight m k r) ≡ pick (ok-due s p q n m k r) (addressees s m) (s (flight m k r))
+-- the OKs, one after the other
+oks-letters : (s : State) (p q n x k r : ℕ) → Sent s p q n x k r (send-oks s p q n (flight x k r))
 unfolding send-oks send-ok
-oks-letters s p q zero m k r =
-    sym (pick-no (addressees s m) (s (flight m k r))
-    (none (both (eqb 2 k) (eqb p r)) (ltb m 0) (due s p q m) (inl (le-ltb m 0 (omega arith)))))
-oks-letters s p q (suc n) m k r = go (due t p q n) refl (oks-letters s p q n m k r)
+oks-letters s p q zero x k r = old refl (λ _ _ l. absurd (not-suc-le-zero l))
+oks-letters s p q (suc n) x k r = go (due (send-oks s p q n) p q n) refl (oks-letters s p q n x k r)
   where
-    t : State
-    t = send-oks s p q n
-
-    owed : Bool → ℕ
-    owed b = pick b (addressees s m) (s (flight m k r))
-
-    due-is : due (send-oks s p q n) p q n ≡ due s p q n
-    due-is = due-same s (send-oks s p q n) p q n (oks-still s p q n) (oks-process s p q n p)
-
-    -- the letter is the OK for n just when its test passes
-    same-letter : both (eqb n m) (both (eqb 2 k) (eqb p r)) ≡ true
-        → _≡_ {A = Cell} (flight n 2 p) (flight m k r)
-    same-letter e =
-        let a = eqb-true n m (both-l (eqb n m) (both (eqb 2 k) (eqb p r)) e) in
-        let z = both-r (eqb n m) (both (eqb 2 k) (eqb p r)) e in
-        let b = eqb-true 2 k (both-l (eqb 2 k) (eqb p r) z) in
-        let c = eqb-true p r (both-r (eqb 2 k) (eqb p r) z) in
-        cc
-
-    letter-same : _≡_ {A = Cell} (flight n 2 p) (flight m k r)
-        → both (eqb n m) (both (eqb 2 k) (eqb p r)) ≡ true
-    letter-same e =
-        both-i (eqb n m) (both (eqb 2 k) (eqb p r)) (eq-eqb n m (cc))
-        (both-i (eqb 2 k) (eqb p r) (eq-eqb 2 k (cc)) (eq-eqb p r (cc)))
-
-    wider : (a b : Bool) → eqb n m ≡ a → both (eqb 2 k) (eqb p r) ≡ b → both a b ≡ false
-        → both b (both (ltb m n) (due s p q m)) ≡ both b (both (ltb m (suc n)) (due s p q m))
-    wider a false e f z = refl
-    wider false true e f z =
-        ap (λ (x : Bool). both x (due s p q m)) (below-more m n (λ d. clash (eq-eqb n m d) e))
-    wider true true e f z = clash {b = true} refl z
+    due-is : due s p q n ≡ due (send-oks s p q n) p q n
+    due-is = sym (due-same s (send-oks s p q n) p q n (oks-still s p q n) (oks-process s p q n p))
 
     go : (b : Bool) → due (send-oks s p q n) p q n ≡ b
-        → send-oks s p q n (flight m k r) ≡ pick (ok-due s p q n m k r) (addressees s m) (s (flight m k r))
-        → pick b (put (send-oks s p q n) (flight n 2 p) (addressees (send-oks s p q n) n)) (send-oks s p q n)
-        (flight m k r)
-        ≡ pick (ok-due s p q (suc n) m k r) (addressees s m) (s (flight m k r))
-    go b e ih = at-letter b (sym due-is ∙ e) (bool-cases (both (eqb n m) (both (eqb 2 k) (eqb p r))))
-      where
-        at-letter : (b : Bool) → due s p q n ≡ b
-            → (both (eqb n m) (both (eqb 2 k) (eqb p r)) ≡ true)
-            ⊎ (both (eqb n m) (both (eqb 2 k) (eqb p r)) ≡ false)
-            → pick b (put (send-oks s p q n) (flight n 2 p) (addressees (send-oks s p q n) n))
-            (send-oks s p q n) (flight m k r)
-            ≡ pick (ok-due s p q (suc n) m k r) (addressees s m) (s (flight m k r))
-        at-letter true d (inl x) =
-            let z = both-r (eqb n m) (both (eqb 2 k) (eqb p r)) x in
-            let nm = eqb-true n m (both-l (eqb n m) (both (eqb 2 k) (eqb p r)) x) in
-            put-same (send-oks s p q n) (flight n 2 p) (flight m k r) (addressees (send-oks s p q n) n)
-            (same-letter x)
-            ∙ addressees-same s (send-oks s p q n) n (ap (λ (v : Still). v .ground) (oks-still s p q n))
-            ∙ ap (addressees s) nm
-            ∙ sym (pick-yes (addressees s m) (s (flight m k r))
-            (both-i (both (eqb 2 k) (eqb p r)) (both (ltb m (suc n)) (due s p q m)) z
-            (both-i (ltb m (suc n)) (due s p q m) (lt-ltb m (suc n) (omega arith))
-            (ap (due s p q) (sym nm) ∙ d))))
-        at-letter false d (inl x) =
-            let nm = eqb-true n m (both-l (eqb n m) (both (eqb 2 k) (eqb p r)) x) in
-            let no : due s p q m ≡ false = ap (due s p q) (sym nm) ∙ d in
-            ih ∙ ap owed (none (both (eqb 2 k) (eqb p r)) (ltb m n) (due s p q m) (inr no)
-            ∙ sym (none (both (eqb 2 k) (eqb p r)) (ltb m (suc n)) (due s p q m) (inr no)))
-        at-letter true d (inr x) =
-            put-other (send-oks s p q n) (flight n 2 p) (flight m k r) (addressees (send-oks s p q n) n)
-            (λ e. clash (letter-same e) x)
-            ∙ ih ∙ ap owed (wider (eqb n m) (both (eqb 2 k) (eqb p r)) refl refl x)
-        at-letter false d (inr x) = ih ∙ ap owed (wider (eqb n m) (both (eqb 2 k) (eqb p r)) refl refl x)
-
--- the OKs of a turn are those owed in its middle, and no other letter has changed
-pub fifo-one-letters : (s : State) (p m x k r : ℕ) → fifo-one s p m (flight x k r)
-    ≡ pick (ok-due (fifo-middle s p m) p (s (sender m)) (fifo-middle s p m count) x k r) (addressees s x)
-    (s (flight x k r))
-fifo-one-letters s p m x k r =
-    let u : State = fifo-middle s p m in
-    ap (λ (t : State). t (flight x k r)) (fifo-one-is s p m) ∙ oks-letters u p (s (sender m)) (u count) x k r
-    ∙ ap₂ (pick (ok-due u p (s (sender m)) (u count) x k r))
-    (addressees-same s u x (ap (λ (v : Still). v .ground) (fifo-middle-still s p m)))
-    (ap (λ (f : ℕ → ℕ → ℕ → ℕ). f x k r)
-    (causal-all-letters (fifo-started s p m) p ∙ fifo-started-letters s p m))
+        → Sent s p q n x k r (send-oks s p q n (flight x k r))
+        → Sent s p q (suc n) x k r
+        (pick b (put (send-oks s p q n) (flight n 2 p) (addressees (send-oks s p q n) n)) (send-oks s p q n)
+        (flight x k r))
+    go true e ih =
+        put-at (send-oks s p q n) (flight n 2 p) (flight x k r) (addressees (send-oks s p q n) n)
+        (Sent s p q (suc n) x k r)
+        (λ c. let d : n ≡ x = cc in
+        ok (cc) (cc) (omega arith) (ap (due s p q) (sym d) ∙ due-is ∙ e)
+        (addressees-same s (send-oks s p q n) n (ap (λ (v : Still). v .ground) (oks-still s p q n))
+        ∙ ap (addressees s) d))
+        (λ c. sent-more (λ a b d. absurd (c (cc))) ih)
+    go false e ih = sent-more (λ _ _ d. ap (due s p q) (sym d) ∙ due-is ∙ e) ih
 
 -- ---- p's FIFO side after a turn: m stands last in the FIFO log, next of its sender has risen
 abbrev pub turned : State → ℕ → ℕ → Front
@@ -461,11 +369,8 @@ raised t p m =
     ∙ pick-yes _ (t (next p (t (sender m)))) (eqb-refl (t (sender m)))
 
 -- ---- the OKs of a turn, as facts
--- the letter of kind k for x from r is a new OK: p holds x, of the same sender as m, and the number is next
--- as it is now
-pub record NewOk (t : State) (p m x k r : ℕ) : Type 0 where
-  pub is-ok : 2 ≡ k
-  pub by : p ≡ r
+-- p sends an OK for x: it holds x, of the same sender as m, and its number is next as it is now
+pub record NewOk (t : State) (p m x : ℕ) : Type 0 where
   pub low : x < t count
   pub has : t (held p x) ≡ 1
   pub of : t (sender x) ≡ t (sender m)
@@ -498,65 +403,65 @@ module _ (t : State) (p m x : ℕ) where
       ∙ pick-yes _ (t (next p (t (sender m)))) (eqb-refl (t (sender m)))
 
   -- an OK that is owed is a new one
-  owed-facts : (k r : ℕ) → ok-due (fifo-middle t p m) p (t (sender m)) (fifo-middle t p m count) x k r ≡ true
-      → NewOk t p m x k r
+  owed-facts : x < t count → due (fifo-middle t p m) p (t (sender m)) x ≡ true → NewOk t p m x
   unfolding due
-  owed-facts k r e =
+  owed-facts l e =
       let u : State = fifo-middle t p m in
       let q : ℕ = t (sender m) in
-      let d : Bool = due u p q x in
-      let a = both-l (both (eqb 2 k) (eqb p r)) (both (ltb x (u count)) d) e in
-      let z = both-r (both (eqb 2 k) (eqb p r)) (both (ltb x (u count)) d) e in
-      let h = both-r (ltb x (u count)) d z in
-      let hs = both-l (both (eqb (u (held p x)) 1) (eqb (u (sender x)) q)) (in-turn u p x) h in
+      let a = both-l (both (eqb (u (held p x)) 1) (eqb (u (sender x)) q)) (in-turn u p x) e in
       let of = sym mid-sender
-      ∙ eqb-true (u (sender x)) q (both-r (eqb (u (held p x)) 1) (eqb (u (sender x)) q) hs) in
+      ∙ eqb-true (u (sender x)) q (both-r (eqb (u (held p x)) 1) (eqb (u (sender x)) q) a) in
       record {
-        is-ok = eqb-true 2 k (both-l (eqb 2 k) (eqb p r) a);
-        by = eqb-true p r (both-r (eqb 2 k) (eqb p r) a);
-        low = omega (arith, ltb-true x (u count) (both-l (ltb x (u count)) d z), mid-count);
+        low = l;
         has = sym mid-held
-            ∙ eqb-true (u (held p x)) 1 (both-l (eqb (u (held p x)) 1) (eqb (u (sender x)) q) hs);
+            ∙ eqb-true (u (held p x)) 1 (both-l (eqb (u (held p x)) 1) (eqb (u (sender x)) q) a);
         of = of;
         turn = sym mid-number
             ∙ eqb-true (u (number x (u (group p)))) (u (next p (u (sender x))))
-            (both-r (both (eqb (u (held p x)) 1) (eqb (u (sender x)) q)) (in-turn u p x) h)
+            (both-r (both (eqb (u (held p x)) 1) (eqb (u (sender x)) q)) (in-turn u p x) e)
             ∙ mid-next of;
       }
 
   -- and a new one is owed
-  owed-is : NewOk t p m x 2 p
-      → ok-due (fifo-middle t p m) p (t (sender m)) (fifo-middle t p m count) x 2 p ≡ true
+  owed-is : NewOk t p m x → due (fifo-middle t p m) p (t (sender m)) x ≡ true
   unfolding due
   owed-is o =
       let u : State = fifo-middle t p m in
       rw (
-        eqb-refl p,
-        lt-ltb x (u count) (omega (arith, o .low, mid-count)),
         eq-eqb (u (held p x)) 1 (mid-held ∙ o .has),
         eq-eqb (u (sender x)) (t (sender m)) (mid-sender ∙ o .of),
       ) (eq-eqb (u (number x (u (group p)))) (u (next p (u (sender x))))
       (mid-number ∙ o .turn ∙ sym (mid-next (o .of))))
 
+  -- the letters after the turn are those of its middle after the OKs
+  after-oks : (k r : ℕ) → Sent (fifo-middle t p m) p (t (sender m)) (fifo-middle t p m count) x k r
+      (fifo-one t p m (flight x k r))
+  after-oks k r =
+      subst
+      (λ (s : State). Sent (fifo-middle t p m) p (t (sender m)) (fifo-middle t p m count) x k r (s (flight x k r)))
+      (sym (fifo-one-is t p m))
+      (oks-letters (fifo-middle t p m) p (t (sender m)) (fifo-middle t p m count) x k r)
+
+  -- the addressees are as they were
+  mid-to : addressees (fifo-middle t p m) x ≡ addressees t x
+  mid-to = addressees-same t (fifo-middle t p m) x (ap (λ (v : Still). v .ground) (fifo-middle-still t p m))
+
   -- a new OK flies to all addressees
-  pub ok-sent : NewOk t p m x 2 p → fifo-one t p m (flight x 2 p) ≡ addressees t x
-  ok-sent o = fifo-one-letters t p m x 2 p ∙ pick-yes (addressees t x) (t (flight x 2 p)) (owed-is o)
+  pub ok-sent : NewOk t p m x → fifo-one t p m (flight x 2 p) ≡ addressees t x
+  ok-sent o = elim (after-oks 2 p) [
+    | ok a b l d e ↦ e ∙ mid-to
+    | old e f ↦ clash (owed-is o) (f refl refl (omega (arith, o .low, mid-count)))
+  ]
 
   -- a letter of the turn is a new OK, or flies as it did
-  pub letter-cases : (k r : ℕ) → (NewOk t p m x k r × (fifo-one t p m (flight x k r) ≡ addressees t x))
+  pub letter-cases : (k r : ℕ)
+      → ((2 ≡ k) × (p ≡ r) × NewOk t p m x × (fifo-one t p m (flight x k r) ≡ addressees t x))
       ⊎ (fifo-one t p m (flight x k r) ≡ t (flight x k r))
-  letter-cases k r = go (bool-cases owed)
-    where
-      owed : Bool
-      owed = ok-due (fifo-middle t p m) p (t (sender m)) (fifo-middle t p m count) x k r
-
-      go : (ok-due (fifo-middle t p m) p (t (sender m)) (fifo-middle t p m count) x k r ≡ true)
-          ⊎ (ok-due (fifo-middle t p m) p (t (sender m)) (fifo-middle t p m count) x k r ≡ false)
-          → (NewOk t p m x k r × (fifo-one t p m (flight x k r) ≡ addressees t x))
-          ⊎ (fifo-one t p m (flight x k r) ≡ t (flight x k r))
-      go (inl e) =
-          inl (owed-facts k r e, fifo-one-letters t p m x k r ∙ pick-yes (addressees t x) (t (flight x k r)) e)
-      go (inr e) = inr (fifo-one-letters t p m x k r ∙ pick-no (addressees t x) (t (flight x k r)) e)
+  letter-cases k r = elim (after-oks k r) [
+    | ok a b l d e ↦ inl (a, b, owed-facts (omega (arith, mid-count)) d, e ∙ mid-to)
+    | old e f ↦ inr (e ∙ ap (λ (g : ℕ → ℕ → ℕ → ℕ). g x k r)
+        (causal-all-letters (fifo-started t p m) p ∙ fifo-started-letters t p m))
+  ]
 
 -- ---- in turn
 -- x is in turn at r, or past it
@@ -582,14 +487,12 @@ module _ (t : State) (p m x r : ℕ) where
   ]
 
 -- a message with a new OK was out of turn before the delivery
-pub ok-far :
-    (t : State) (p m x k r : ℕ) →
-    NewOk t p m x k r → t (next p (t (sender x))) < t (number x (t (group p)))
-ok-far t p m x k r o = omega (arith, o .turn, ap (λ (q : ℕ). t (next p q)) (o .of))
+pub ok-far : (t : State) (p m x : ℕ) → NewOk t p m x → t (next p (t (sender x))) < t (number x (t (group p)))
+ok-far t p m x o = omega (arith, o .turn, ap (λ (q : ℕ). t (next p q)) (o .of))
 
 -- and is in turn after it
-pub ok-near : (t : State) (p m x k r : ℕ) → NewOk t p m x k r → Near (fifo-one t p m) x p
-ok-near t p m x k r o =
+pub ok-near : (t : State) (p m x : ℕ) → NewOk t p m x → Near (fifo-one t p m) x p
+ok-near t p m x o =
     omega (
       arith,
       o .turn,

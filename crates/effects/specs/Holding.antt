@@ -1,24 +1,25 @@
 -- What is held is to its holder, and a letter in flight to an addressee: soundness says so, and it stays so
 -- while a letter arrives and in the cascade. And the letter that settle chooses is one whose arrival is
--- accepted. Assumes nothing.
+-- accepted, and a loss is accepted only where an end is down. Assumes nothing.
 use mathlib.Core.Path.{_≡_, refl, sym, ap, _∙_, subst}
-use mathlib.Core.Bool.{true}
-use mathlib.Core.Logic.{_⊎_, inl, inr}
+use mathlib.Core.Bool.{Bool, true, false, not}
+use mathlib.Core.Logic.{_⊎_, inl, inr, _≢_}
 use Prim.Native.Nat.{ℕ, _<_}
 use native.Mathlib.Omega.{arith}
-use native.Mathlib.Decide.{ℕ-discrete}
-use lib.Dec.{ltb}
-use borrow.Author.Tests.{lt-ltb, eq-eqb}
-use Rattle.base.specs.Tests.{both-r}
+use lib.Dec.{ltb, eqb}
+use borrow.Author.Tests.{lt-ltb, eq-eqb, eqb-false}
+use Rattle.base.specs.Tests.{clash, both, both-r}
+use Rattle.base.specs.Refusals.{needs}
 use Rattle.base.specs.Bits.{bit}
 use Rattle.world.specs.World.{size, count, group, trust, up, held, mask, State, put}
-use Rattle.world.specs.Layout.{put-other}
+use Rattle.world.specs.Layout.{put-at}
 use Rattle.world.specs.Sound.{Sound}
 use Rattle.world.specs.SoundLaws.{size-high, count-high, letter-facts, held-facts}
-use Rattle.world.specs.Machine.{addressed, leave, mark}
-use Rattle.world.specs.Steps.{arrives, refusal, accepted}
+use Rattle.world.specs.Machine.{addressed, leave, mark, arrival}
+use Rattle.world.specs.Steps.{arrives, loses, is-process, is-message, is-up, in-flight, refusal, accepted}
 use Rattle.world.specs.StepLaws.{InFlight, Moves}
-use Rattle.effects.specs.Views.{Ground, Still, still}
+use Rattle.effects.specs.Views.{Ground, ground, Still, still}
+use Rattle.effects.specs.Cascade.{cascade-still}
 use Rattle.effects.specs.Arrival.{mark-cases, hold-cases, arrived, arrived-ground}
 
 -- what p holds is to p
@@ -60,15 +61,9 @@ unfolding put
 held-arrived s k m q p x =
     hold-cases (λ t. t (held p x) ≡ 1 → (s (held p x) ≡ 1) ⊎ (m ≡ x)) (mark (leave s k m q p) k m q p) p m
     (λ _ d. inl (sym (held-marked s k m q p x) ∙ d))
-    (λ _ d. go (ℕ-discrete m x) d)
-  where
-    t : State
-    t = mark (leave s k m q p) k m q p
-
-    go : Dec (m ≡ x) → put (mark (leave s k m q p) k m q p) (held p m) 1 (held p x) ≡ 1
-        → (s (held p x) ≡ 1) ⊎ (m ≡ x)
-    go (yes e) d = inr e
-    go (no n) d = inl (sym (put-other t (held p m) (held p x) 1 (λ e. n (cc)) ∙ held-marked s k m q p x) ∙ d)
+    (λ _. put-at (mark (leave s k m q p) k m q p) (held p m) (held p x) _
+    (λ v. v ≡ 1 → (s (held p x) ≡ 1) ⊎ (m ≡ x)) (λ e _. inr (cc))
+    (λ _ d. inl (sym (held-marked s k m q p x) ∙ d)))
 
 -- what p holds when a letter has arrived is to p
 pub arrived-held : (s : State) → Sound s → (k m q p : ℕ) → InFlight s k m q p → HeldTo (arrived s k m q p) p
@@ -100,3 +95,31 @@ chosen-accepted s k m q p a =
       eq-eqb (s (up p)) 1 (a .to-up),
       l .flies,
     )
+
+-- ---- a loss is accepted only where one end is down
+pub loss-needs : (s : State) (k m q p : ℕ) → accepted s (loses k m q p) ≡ true → (s (up q) ≢ 1) ⊎ (s (up p) ≢ 1)
+unfolding refusal
+loss-needs s k m q p e =
+    which (is-up s q) (is-up s p) refl refl
+    (go (ltb k 3) (both (is-process s q) (is-process s p)) (is-message s m) (in-flight s k m q p)
+    (not (both (is-up s q) (is-up s p))) e)
+  where
+    go : (a b c d f : Bool) → eqb (needs 4 a (needs 5 b (needs 7 c (needs 11 d (needs 12 f 0))))) 0 ≡ true
+        → f ≡ true
+    go a b c d true z = refl
+    go true true true true false z = clash {b = false} z refl
+    go true true true false false z = clash {b = false} z refl
+    go true true false d false z = clash {b = false} z refl
+    go true false c d false z = clash {b = false} z refl
+    go false b c d false z = clash {b = false} z refl
+
+    which : (a b : Bool) → is-up s q ≡ a → is-up s p ≡ b → not (both a b) ≡ true → (s (up q) ≢ 1) ⊎ (s (up p) ≢ 1)
+    which false b x y z = inl (eqb-false (s (up q)) 1 x)
+    which true false x y z = inr (eqb-false (s (up p)) 1 y)
+    which true true x y z = clash {b = false} z refl
+
+-- ---- an arrival changes no trust set, no group, and nobody goes down
+pub arrival-ground : (s : State) (k m q p : ℕ) → ground (arrival s k m q p) ≡ ground s
+unfolding arrival
+arrival-ground s k m q p =
+    ap (λ (v : Still). v .ground) (cascade-still (arrived s k m q p) p) ∙ arrived-ground s k m q p

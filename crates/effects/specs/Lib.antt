@@ -1,5 +1,6 @@
-pub mod Loops
 pub mod Views
 pub mod Cascade
 pub mod Arrival
 pub mod Holding
+pub mod Spent
+pub mod Runs

@@ -53,8 +53,7 @@ abbrev pub letters : State → ℕ → ℕ → ℕ → ℕ
 letters s m k q = s (flight m k q)
 
 -- ---- what neither a cascade nor an arrival changes: how many processes, the messages, who is in which
--- group, whom a
--- process trusts, whether it is up
+-- group, whom a process trusts, whether it is up
 pub record Ground : Type 0 where
   pub size : ℕ
   pub messages : Messages
@@ -81,3 +80,30 @@ pub record Still : Type 0 where
 -- what no cascade changes, of a state
 abbrev pub still : State → Still
 still s = record { ground = ground s; held = λ p m. s (held p m); marks = λ p m. s (marks p m) }
+
+-- ---- what it looks at whether p may deliver a message: how many processes, the messages, the groups, p's own
+-- record, whom it trusts, what it holds and which marks it has
+pub record Place : Type 0 where
+  pub size : ℕ
+  pub messages : Messages
+  pub groups : ℕ → ℕ
+  pub own : Process
+  pub trust : ℕ
+  pub held : ℕ → ℕ
+  pub marks : ℕ → ℕ
+
+-- of p, given what no cascade changes and p's record
+abbrev pub place-of : ℕ → Still → Process → Place
+place-of p v r = record {
+  size = v .ground .size;
+  messages = v .ground .messages;
+  groups = v .ground .group;
+  own = r;
+  trust = v .ground .trust p;
+  held = v .held p;
+  marks = v .marks p;
+}
+
+-- of p in a state
+abbrev pub place : State → ℕ → Place
+place s p = place-of p (still s) (process s p)

@@ -2,7 +2,7 @@
 -- delivery next lags behind the log, but the causal deliveries neither look at next nor change it, so the
 -- state is the same as if next had risen before them; then each change keeps soundness by itself. The FIFO
 -- log has room for the message by counting. It rests on Logs, Changes and Causal. Assumes nothing.
-use mathlib.Core.Path.{_≡_, refl, sym, ap, ap₂, _∙_, subst, fun-ext}
+use mathlib.Core.Path.{_≡_, refl, sym, ap, ap₂, _∙_, subst}
 use mathlib.Core.Bool.{Bool, true, false, not, _&&_}
 use Prim.Native.Nat.{ℕ, _+_, _-_, _<_, _^_}
 use native.Mathlib.Omega.{arith}
@@ -11,57 +11,18 @@ use lib.Dec.{eqb}
 use borrow.Author.Tests.{ltb-true, lt-ltb, le-leb, leb-true, eqb-true, eq-eqb, ne-eqb, not-true}
 use Rattle.base.specs.Tests.{clash, both, both-l, both-r, both-i, pick}
 use Rattle.base.specs.Count.{in-at, absent, absent-out, room-left}
-use Rattle.base.specs.Loop.{loop-keeps, loop-related}
+use Rattle.base.specs.Loop.{loop-keeps}
 use Rattle.base.specs.Bits.{bit, with}
-use Rattle.world.specs.World.{Cell, size, count, rule, group, trust, counter, sequence, next, delivered, up, fifo-length, causal-length, held, marks, fifo, causal, sender, mask, stamp, number, flight, order, unused, State, Within, put}
+use Rattle.world.specs.World.{size, count, rule, group, trust, counter, sequence, next, delivered, up, fifo-length, causal-length, held, marks, fifo, causal, sender, mask, stamp, number, flight, order, unused, State, Within, put}
 use Rattle.world.specs.Layout.{put-at}
 use Rattle.world.specs.Sound.{Frame, frame, process, message, present, addressee, sends, logged-of, fit, fine, Sound}
 use Rattle.world.specs.SoundLaws.{size-high, count-high, sender-low, fifo-addressed, fifo-once, Addressed, held-facts, letter-facts}
-use Rattle.world.specs.Machine.{with-tables, addressees, in-turn, outside-fifo, ready, deliverable, deliverable-at, merge, causal-one, causal-all, appended, raised-next, fifo-one, cascade, leave, mark, hold, arrival, trust-set}
+use Rattle.world.specs.Machine.{addressees, in-turn, outside-fifo, ready, causal-all, appended, raised-next, fifo-one, cascade, leave, mark, hold, arrival, trust-set}
 use Rattle.keeps.specs.Forms.{word-to}
 use Rattle.keeps.specs.Logs.{Longer, put-longer, longer-item, longer-bound, longer-length, longer-listed, longer-tally, item-weaker}
 use Rattle.keeps.specs.Changes.{SoundAt, leave-sound, mark-sound, hold-sound, send-oks-sound, trust-put-sound}
 use Rattle.keeps.specs.Causal.{causal-all-sound}
-
--- ---- next may rise before the causal deliveries
--- one causal delivery: each cell is the same
-next-first : (s : State) (p q i : ℕ) (c : Cell)
-    → causal-one (raised-next s p q) p i c ≡ raised-next (causal-one s p i) p q c
-unfolding causal-one merge with-tables raised-next put
-next-first s p q i size = refl
-next-first s p q i count = refl
-next-first s p q i rule = refl
-next-first s p q i (group x) = refl
-next-first s p q i (trust x) = refl
-next-first s p q i (counter x g y) = refl
-next-first s p q i (sequence x g) = refl
-next-first s p q i (next x y) = refl
-next-first s p q i (delivered x y) = refl
-next-first s p q i (up x) = refl
-next-first s p q i (fifo-length x) = refl
-next-first s p q i (causal-length x) = refl
-next-first s p q i (held x j) = refl
-next-first s p q i (marks x j) = refl
-next-first s p q i (fifo x j) = refl
-next-first s p q i (causal x j) = refl
-next-first s p q i (sender j) = refl
-next-first s p q i (mask j) = refl
-next-first s p q i (stamp j g y) = refl
-next-first s p q i (number j g) = refl
-next-first s p q i (flight j k y) = refl
-next-first s p q i (order j) = refl
-next-first s p q i (unused a) = refl
-
--- all of them
-pub next-before : (s : State) (p q : ℕ) → causal-all (raised-next s p q) p ≡ raised-next (causal-all s p) p q
-unfolding causal-all raised-next put deliverable-at deliverable
-next-before s p q =
-    loop-related (λ t. t (fifo-length p)) (λ t. deliverable-at t p) (λ t. causal-one t p)
-    (λ _ t u. u ≡ raised-next t p q) (λ t u. u ≡ raised-next t p q) (λ _ t u e. e)
-    (λ _ t u e. ap (λ (v : State). v (fifo-length p)) (sym e))
-    (λ _ t u e j _. ap (λ (v : State). deliverable-at v p j) (sym e))
-    (λ _ t u j _ _ e. ap (λ (v : State). causal-one v p j) e ∙ fun-ext (next-first t p q j))
-    (s (fifo-length p) - s (causal-length p)) s (raised-next s p q) refl
+use Rattle.keeps.specs.Next.{next-before}
 
 -- ---- a message appended to the FIFO log, and next of its sender raised
 fifo-longer : (s : State) (p m : ℕ)

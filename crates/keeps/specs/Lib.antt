@@ -2,6 +2,7 @@ pub mod Forms
 pub mod Logs
 pub mod Changes
 pub mod Causal
+pub mod Next
 pub mod Cascade
 pub mod Multicast
 pub mod Fresh

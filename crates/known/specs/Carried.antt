@@ -20,8 +20,8 @@ use Rattle.world.specs.Steps.{read, is-process, is-up, refusal, after}
 use Rattle.world.specs.Settle.{Ending, done, stopped, settle}
 use Rattle.world.specs.Words.{gives, making-refusal, made-words, step-refusal, stepped-words, settled-words, settle-reply, log-words}
 use Rattle.keeps.specs.Keeps.{fresh-sound, after-sound, settle-sound}
-use Rattle.carried.specs.Carried.{view-agree}
-use Rattle.known.specs.Words.{refusal-carried, step-carried, settle-carried, reply-carried, making-carried, made-carried, log-carried}
+use Rattle.carried.specs.Calls.{view-agree}
+use Rattle.carried.specs.Calls.{refusal-carried, step-carried, settle-carried, reply-carried, making-carried, made-carried, log-carried}
 use Rattle.known.specs.Runs.{Line, takes, settles, shows, Row, plays, checks, same-list, same-flag, same-ending, lines-pass, row-passes, all-pass, table, known-runs}
 
 -- ---- what a row says of words
@@ -95,7 +95,7 @@ lines-carried s h (shows p live fs cs ∷ ls) e =
     let e2 = both-l (here && flag && first) second e1 in
     let e3 = both-l (here && flag) first e2 in
     let hp = ltb-true p (s size) (both-l here flag e3) in (
-      sym (ap (λ (v : ℕ). eqb v 1) (view-agree s .same (up p) (omega (arith, hp, size-high s h))))
+      sym (ap (λ (v : ℕ). eqb v 1) (view-agree s h .at (up p) (omega (arith, hp, size-high s h)) .0))
           ∙ flag-same (is-up s p) live (both-r here flag e3),
       log-carried s h p hp false ∙ list-same _ fs (both-r (here && flag) first e2),
       log-carried s h p hp true ∙ list-same _ cs (both-r (here && flag && first) second e1),

@@ -1,4 +1,3 @@
 pub mod Runs
-pub mod Words
 pub mod Carried
 pub mod Lost

@@ -33,7 +33,7 @@ use Rattle.world.specs.Words.{log-words}
 use Rattle.world.specs.History.{gained, deliveries, on-states, Run, Item, given, settling, taken, tick, settles, act, run, on-words, started, started-words}
 use Rattle.keeps.specs.Keeps.{fresh-sound, step-sound, run-sound}
 use Rattle.carried.specs.Carried.{written, act-sound, run-carried, start-carried}
-use Rattle.known.specs.Words.{making-carried, log-carried}
+use Rattle.carried.specs.Calls.{making-carried, log-carried}
 use Rattle.known.specs.Runs.{multicasting, arriving, losing, crashing, three}
 
 -- ---- the facts

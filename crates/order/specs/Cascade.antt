@@ -1,7 +1,6 @@
 -- What the counters and logs of a state mean, given its history (Meaning), and that the cascade keeps it:
 -- each causal delivery, each FIFO delivery with next raised, the OKs, and so the two loops. At the end
--- nothing is left to deliver causally. The fuel suffices: of the distinct messages of a log, and one outside
--- it, there is room for one more. Assumes nothing.
+-- nothing is left to deliver causally, since the fuel suffices (Fuel of world). Assumes nothing.
 use mathlib.Core.Path.{_≡_, refl, sym, ap, ap₂, _∙_, subst}
 use mathlib.Core.Bool.{Bool, true, false, _&&_}
 use mathlib.Core.List.{List, _∷_}
@@ -9,28 +8,43 @@ use mathlib.Core.Logic.{inl, inr, _≢_}
 use Prim.Native.Nat.{ℕ, zero, suc, _+_, _-_, _≤_, _<_}
 use native.Mathlib.Omega.{arith}
 use lib.Dec.{leb, eqb}
-use borrow.Author.Tests.{eqb-true, eqb-false, leb-true, leb-false}
-use Rattle.base.specs.Tests.{clash, both, both-l, both-r, either, either-e, at-or-off}
+use borrow.Author.Tests.{eqb-true, eqb-false, ne-eqb, leb-true, leb-false}
+use Rattle.base.specs.Tests.{clash, both, both-l, both-r, either, at-or-off}
 use Rattle.base.specs.Search.{every, every-true, every-false}
-use Rattle.base.specs.Count.{tally, tally-falls, In, absent, absent-in, absent-out, in-absent, out-absent, in-dec, absent-room, room-left}
+use Rattle.base.specs.Loop.{loop-keeps}
+use Rattle.base.specs.Count.{In, absent-in, absent-out, in-dec}
 use Rattle.world.specs.World.{size, count, group, fifo-length, causal-length, fifo, causal, next, delivered, held, sender, stamp, number, State, put}
 use Rattle.world.specs.Machine.{with-tables, addressed, in-turn, outside-fifo, outside-causal, marked, ready, fits, deliverable, deliverable-at, merge, causal-one, causal-all, appended, raised-next, fifo-one, cascade}
 use Rattle.world.specs.History.{Event, got, deliveries, grown}
-use Rattle.effects.specs.Loops.{Turn, End, loop-end}
+use Rattle.world.specs.Fuel.{causal-ends}
 use Rattle.effects.specs.Holding.{HeldTo, held-to}
 use Rattle.effects.specs.Views.{Messages, messages, Process, process, Ground, ground, Still, still}
-use Rattle.effects.specs.Cascade.{fifo-delivered, causal-delivered, fifo-started, fifo-started-here, fifo-started-there, causal-one-here, causal-one-there, fifo-middle, fifo-middle-still, Front, fifo-one-front, at-place, fifo-one-process, fifo-one-still, fifo-one-there}
+use Rattle.effects.specs.Cascade.{fifo-delivered, causal-delivered, fifo-started, fifo-started-here, fifo-started-there, causal-one-here, causal-one-there, fifo-middle, fifo-middle-still, fifo-one-process, fifo-one-still, fifo-one-there}
 use Rattle.order.specs.Knowledge.{Knowledge, learn, knowledge}
 use Rattle.order.specs.Counters.{counted, all-of, Counting, counting-got, counter-here, counter-there}
-use Rattle.order.specs.Logs.{at-here, at-else, in-longer, in-new, FifoLogOf, fifo-log-more, CausalLog, causal-log-fifo, causal-log-more, Waits, waits, Stuck, Quiet}
+use Rattle.order.specs.Logs.{at-here, at-else, FifoLogOf, fifo-log-more, CausalLog, causal-log-fifo, causal-log-more, Waits, waits, Stuck, Quiet}
+
+-- ---- the logs of a state
+-- "A process has FIFO-delivered or causally delivered exactly the messages in its log of that name"
+abbrev pub Fifo : State → ℕ → ℕ → Type 0
+Fifo s p m = In (s (fifo-length p)) (λ i. s (fifo p i)) m
+
+-- the same of the causal log
+abbrev pub Causal : State → ℕ → ℕ → Type 0
+Causal s p m = In (s (causal-length p)) (λ i. s (causal p i)) m
 
 -- ---- what a state's counters and logs mean
+-- of process p, given its record
+pub record Means (w : Messages) (k : Knowledge) (p : ℕ) (r : Process) : Type 0 where
+  pub counters : (g q : ℕ) → r .counter g q ≡ counted w (k .past p) q g
+  pub sequences : (g : ℕ) → r .sequence g ≡ all-of w p g
+  pub fifo-log : FifoLogOf w r
+  pub causal-log : CausalLog w (k .before) r
+
+-- of the messages and all processes
 pub record Meaning (n : ℕ) (w : Messages) (ps : ℕ → Process) (k : Knowledge) : Type 0 where
   pub counting : Counting n w k
-  pub counters : (p g q : ℕ) → ps p .counter g q ≡ counted w (k .past p) q g
-  pub sequences : (p g : ℕ) → ps p .sequence g ≡ all-of w p g
-  pub fifos : (p : ℕ) → FifoLogOf w (ps p)
-  pub causals : (p : ℕ) → CausalLog w (k .before) (ps p)
+  pub each : (p : ℕ) → Means w k p (ps p)
 
 -- the meaning of a state's cells, given the events
 abbrev pub MeaningOf : State → List Event → Type 0
@@ -48,10 +62,7 @@ module _ (s t : State) (e : messages t ≡ messages s) (z : t size ≡ s size)
       subst (λ (n : ℕ). Meaning n (messages t) (process t) (knowledge es)) (sym z)
       (subst (λ (w : Messages). Meaning (s size) w (process t) (knowledge es)) (sym e) (record {
         counting = o .counting;
-        counters = λ p g q. ap (λ (x : Process). x .counter g q) (f p) ∙ o .counters p g q;
-        sequences = λ p g. ap (λ (x : Process). x .sequence g) (f p) ∙ o .sequences p g;
-        fifos = λ p. subst (FifoLogOf (messages s)) (sym (f p)) (o .fifos p);
-        causals = λ p. subst (CausalLog (messages s) (knowledge es .before)) (sym (f p)) (o .causals p);
+        each = λ p. subst (Means (messages s) (knowledge es) p) (sym (f p)) (o .each p);
       }))
 
   -- nothing is left to deliver in them either
@@ -82,12 +93,8 @@ module _ (s : State) (p i : ℕ) where
         (both-l (outside-causal s p x) (deliverable s p x) e);
     free =
         λ q h ne. leb-true (s (stamp x (s (group p)) q)) (s (delivered p q))
-        (elim (either-e (eqb q (s (sender x)))
-        (leb (s (stamp x (s (group p)) q)) (s (delivered p q)))
-        (every-true (s size) (fits s p x) (both-r (outside-causal s p x) (deliverable s p x) e) q h)) [
-          | inl a ↦ absurd (ne (eqb-true q (s (sender x)) a))
-          | inr a ↦ a
-        ]);
+        (simp (ne-eqb q (s (sender x)) ne) at
+        (every-true (s size) (fits s p x) (both-r (outside-causal s p x) (deliverable s p x) e) q h));
   }
 
   -- one that fails it is delivered, or waits
@@ -153,28 +160,30 @@ module _ (s : State) (es : List Event) (p i : ℕ) (hi : i < s (fifo-length p)) 
   unfolding causal-one merge with-tables put knowledge causal-delivered
   meaning-causal = record {
     counting = counting-got (o .counting) p (s (fifo p i));
-    counters = λ r g q. at-or-off p
-        (λ x. process (causal-one s p i) x .counter g q
-        ≡ counted (messages s) (learn (got p (s (fifo p i))) (knowledge es) .past x) q g)
-        (ap (λ (x : Process). x .counter g q) (causal-one-here s p i)
-        ∙ counter-here (o .counting) p (s (fifo p i)) (o .fifos p .old i hi) g q (process s p .counter g q)
-        (o .counters p g q))
-        (λ x n. ap (λ (y : Process). y .counter g q) (causal-one-there s p i x n)
-        ∙ counter-there (o .counting) p (s (fifo p i)) x g q (process s x .counter g q) n (o .counters x g q))
-        r;
-    sequences = λ r g. at-or-off p (λ x. process (causal-one s p i) x .sequence g ≡ all-of (messages s) x g)
-        (ap (λ (x : Process). x .sequence g) (causal-one-here s p i) ∙ o .sequences p g)
-        (λ x n. ap (λ (y : Process). y .sequence g) (causal-one-there s p i x n) ∙ o .sequences x g) r;
-    fifos = λ r. at-or-off p (λ x. FifoLogOf (messages s) (process (causal-one s p i) x))
-        (subst (FifoLogOf (messages s)) (sym (causal-one-here s p i)) (o .fifos p))
-        (λ x n. subst (FifoLogOf (messages s)) (sym (causal-one-there s p i x n)) (o .fifos x)) r;
-    causals =
-        λ r. at-or-off p (λ x. CausalLog (messages s) (knowledge es .before) (process (causal-one s p i) x))
-        (subst (CausalLog (messages s) (knowledge es .before)) (sym (causal-one-here s p i))
-        (causal-log-more (o .counting) (o .fifos p) (o .causals p) i hi (d .outside) (d .free) first))
-        (λ x n. subst (CausalLog (messages s) (knowledge es .before)) (sym (causal-one-there s p i x n))
-        (o .causals x)) r;
+    each = at-or-off p
+        (λ x. Means (messages s) (learn (got p (s (fifo p i))) (knowledge es)) x (process (causal-one s p i) x))
+        (subst (Means (messages s) (learn (got p (s (fifo p i))) (knowledge es)) p) (sym (causal-one-here s p i))
+        (record {
+          counters = λ g q. counter-here (o .counting) p (s (fifo p i)) (mine .fifo-log .old i hi) g q
+              (process s p .counter g q) (mine .counters g q);
+          sequences = mine .sequences;
+          fifo-log = mine .fifo-log;
+          causal-log =
+              causal-log-more (o .counting) (mine .fifo-log) (mine .causal-log) i hi (d .outside) (d .free)
+              first;
+        }))
+        (λ x n. subst (Means (messages s) (learn (got p (s (fifo p i))) (knowledge es)) x)
+        (sym (causal-one-there s p i x n)) (record {
+          counters = λ g q. counter-there (o .counting) p (s (fifo p i)) x g q (process s x .counter g q) n
+              (o .each x .counters g q);
+          sequences = o .each x .sequences;
+          fifo-log = o .each x .fifo-log;
+          causal-log = o .each x .causal-log;
+        }));
   }
+    where
+      mine : Means (messages s) (knowledge es) p (process s p)
+      mine = o .each p
 
 -- ---- a FIFO delivery, with next raised
 pub meaning-fifo : (s : State) (es : List Event) (p m : ℕ) → Ready s p m → m < s count
@@ -183,24 +192,14 @@ pub meaning-fifo : (s : State) (es : List Event) (p m : ℕ) → Ready s p m →
 unfolding raised-next appended put fifo-delivered
 meaning-fifo s es p m y hm tm o = record {
   counting = o .counting;
-  counters =
-      λ r g q. at-or-off p
-      (λ x. process (fifo-started s p m) x .counter g q ≡ counted (messages s) (knowledge es .past x) q g)
-      (ap (λ (x : Process). x .counter g q) (fifo-started-here s p m) ∙ o .counters p g q)
-      (λ x n. ap (λ (y : Process). y .counter g q) (fifo-started-there s p m x n) ∙ o .counters x g q) r;
-  sequences = λ r g. at-or-off p (λ x. process (fifo-started s p m) x .sequence g ≡ all-of (messages s) x g)
-      (ap (λ (x : Process). x .sequence g) (fifo-started-here s p m) ∙ o .sequences p g)
-      (λ x n. ap (λ (y : Process). y .sequence g) (fifo-started-there s p m x n) ∙ o .sequences x g) r;
-  fifos = λ r. at-or-off p (λ x. FifoLogOf (messages s) (process (fifo-started s p m) x))
-      (subst (FifoLogOf (messages s)) (sym (fifo-started-here s p m))
-      (fifo-log-more (o .counting) (o .fifos p) m hm tm (y .outside) (y .turn)))
-      (λ x n. subst (FifoLogOf (messages s)) (sym (fifo-started-there s p m x n)) (o .fifos x)) r;
-  causals =
-      λ r. at-or-off p (λ x. CausalLog (messages s) (knowledge es .before) (process (fifo-started s p m) x))
-      (subst (CausalLog (messages s) (knowledge es .before)) (sym (fifo-started-here s p m))
-      (causal-log-fifo m (o .causals p)))
-      (λ x n. subst (CausalLog (messages s) (knowledge es .before)) (sym (fifo-started-there s p m x n))
-      (o .causals x)) r;
+  each = at-or-off p (λ x. Means (messages s) (knowledge es) x (process (fifo-started s p m) x))
+      (subst (Means (messages s) (knowledge es) p) (sym (fifo-started-here s p m)) (record {
+        counters = o .each p .counters;
+        sequences = o .each p .sequences;
+        fifo-log = fifo-log-more (o .counting) (o .each p .fifo-log) m hm tm (y .outside) (y .turn);
+        causal-log = causal-log-fifo m (o .each p .causal-log);
+      }))
+      (λ x n. subst (Means (messages s) (knowledge es) x) (sym (fifo-started-there s p m x n)) (o .each x));
 }
 
 -- ---- the events of a step, read off the causal log
@@ -236,7 +235,7 @@ grown-one p a i s es h =
 
 -- ---- the causal deliveries, all
 -- the causal deliveries at p that are under way; a is where its causal log ended before the step
-record Delivering (p a : ℕ) (es : List Event) (s t : State) : Type 0 where
+record Delivering (p a : ℕ) (es : List Event) (t : State) : Type 0 where
   pub meaning : MeaningOf t (grown p a t es)
   pub start : a ≤ t (causal-length p)
 
@@ -245,50 +244,18 @@ causal-long : (s : State) (p i : ℕ) → causal-one s p i (causal-length p) ≡
 unfolding causal-delivered
 causal-long s p i = ap (λ (r : Process). r .causal-length) (causal-one-here s p i)
 
--- its FIFO log as long as before
-fifo-long : (s : State) (p i : ℕ) → causal-one s p i (fifo-length p) ≡ s (fifo-length p)
-unfolding causal-delivered
-fifo-long s p i = ap (λ (r : Process). r .fifo-length) (causal-one-here s p i)
-
-module _ (p a : ℕ) (es : List Event) (s : State) where
-  left : State → ℕ
-  left t = t (fifo-length p) - t (causal-length p)
-
-  -- one causal delivery keeps it, and less is left
-  causal-turn : (t : State) (i : ℕ) → i < t (fifo-length p) → deliverable-at t p i ≡ true
-      → ((j : ℕ) → j < i → deliverable-at t p j ≡ false) → Delivering p a es s t
-      → Turn (λ u. u (fifo-length p)) (λ u. deliverable-at u p) (λ u. causal-one u p) (Delivering p a es s)
-      left t i
-  unfolding left
-  causal-turn t i hi e first m =
-      let d = deliverable-facts t p i e in
-      let c = m .meaning .causals p in
-      let room =
-      room-left (t (fifo-length p)) (t (causal-length p)) (λ j. t (fifo p j)) (λ j. t (causal p j))
-      (c .once)
-      (c .in-fifo) i hi (d .outside) in
-      record {
-        keeps = record {
-          meaning = subst (MeaningOf (causal-one t p i)) (sym (grown-one p a i t es (m .start)))
-              (meaning-causal t (grown p a t es) p i hi d (λ j l. stuck-facts t p j (first j l))
-              (m .meaning));
-          start = omega (arith, causal-long t p i, m .start);
-        };
-        falls = omega (arith, room, causal-long t p i, fifo-long t p i);
-      }
-
-  -- all of them keep it, and leave nothing deliverable
-  causal-end : MeaningOf s (grown p a s es) → a ≤ s (causal-length p)
-      → End (λ u. u (fifo-length p)) (λ u. deliverable-at u p) (λ u. causal-one u p) (Delivering p a es s)
-      left (causal-all s p)
-  unfolding causal-all left
-  causal-end o h =
-      loop-end (λ u. u (fifo-length p)) (λ u. deliverable-at u p) (λ u. causal-one u p) (Delivering p a es s)
-      left
-      causal-turn (s (fifo-length p) - s (causal-length p)) s (record {
-        meaning = o;
-        start = h;
-      }) (omega arith)
+-- all of them keep what the state means
+delivering-all : (p a : ℕ) (es : List Event) (s : State) → Delivering p a es s
+    → Delivering p a es (causal-all s p)
+unfolding causal-all
+delivering-all p a es s =
+    loop-keeps (λ u. u (fifo-length p)) (λ u. deliverable-at u p) (λ u. causal-one u p) (Delivering p a es)
+    (λ t i hi e first m. record {
+      meaning = subst (MeaningOf (causal-one t p i)) (sym (grown-one p a i t es (m .start)))
+          (meaning-causal t (grown p a t es) p i hi (deliverable-facts t p i e)
+          (λ j l. stuck-facts t p j (first j l)) (m .meaning));
+      start = omega (arith, causal-long t p i, m .start);
+    }) (s (fifo-length p) - s (causal-length p)) s
 
 -- ---- a turn of the cascade
 -- the cascade at p between two turns: it began in b, of a step that began with p's causal log ending at a
@@ -302,14 +269,18 @@ pub record Cascading (p a : ℕ) (es : List Event) (b t : State) : Type 0 where
 module _ (p a : ℕ) (es : List Event) (b t : State) (h : HeldTo b p) (m : ℕ) (hm : m < t count)
     (y : Ready t p m)
     (o : Cascading p a es b t) where
-  -- the causal deliveries of the turn
-  middle : End (λ u. u (fifo-length p)) (λ u. deliverable-at u p) (λ u. causal-one u p)
-      (Delivering p a es (fifo-started t p m)) (left p a es (fifo-started t p m)) (fifo-middle t p m)
+  -- when the causal deliveries of the turn begin
+  begun : Delivering p a es (fifo-started t p m)
   unfolding raised-next appended put
-  middle =
-      causal-end p a es (fifo-started t p m)
-      (meaning-fifo t (grown p a t es) p m y hm (held-to p b t (o .same) h m hm (y .has)) (o .meaning))
-      (o .start)
+  begun = record {
+    meaning =
+        meaning-fifo t (grown p a t es) p m y hm (held-to p b t (o .same) h m hm (y .has)) (o .meaning);
+    start = o .start;
+  }
+
+  -- and when they have ended
+  middle : Delivering p a es (fifo-middle t p m)
+  middle = delivering-all p a es (fifo-started t p m) begun
 
   -- the middle leaves the ground
   middle-ground : ground (fifo-middle t p m) ≡ ground t
@@ -333,7 +304,9 @@ module _ (p a : ℕ) (es : List Event) (b t : State) (h : HeldTo b p) (m : ℕ) 
 
   -- at p nothing is left to deliver
   quiet-here : Quiet (fifo-middle t p m size) (messages (fifo-middle t p m)) (process (fifo-middle t p m) p)
-  quiet-here i l = stuck-facts (fifo-middle t p m) p i (middle .none-left i l)
+  quiet-here i l =
+      let c = begun .meaning .each p .causal-log in
+      stuck-facts (fifo-middle t p m) p i (causal-ends p (fifo-started t p m) (c .once) (c .in-fifo) i l)
 
   -- nor elsewhere, where nothing changed
   quiet-middle : QuietOf (fifo-middle t p m)
@@ -351,56 +324,20 @@ module _ (p a : ℕ) (es : List Event) (b t : State) (h : HeldTo b p) (m : ℕ) 
   cascading-more = record {
     meaning = subst (MeaningOf (fifo-one t p m)) (sym same-events)
         (meaning-same (fifo-middle t p m) (fifo-one t p m) one-messages one-size (fifo-one-process t p m)
-        (grown p a (fifo-middle t p m) es) (middle .kept .meaning));
+        (grown p a (fifo-middle t p m) es) (middle .meaning));
     quiet =
         quiet-same (fifo-middle t p m) (fifo-one t p m) one-messages one-size (fifo-one-process t p m)
         quiet-middle;
     start =
-        omega (arith, ap (λ (r : Process). r .causal-length) (fifo-one-process t p m p), middle .kept .start);
+        omega (arith, ap (λ (r : Process). r .causal-length) (fifo-one-process t p m p), middle .start);
     same = fifo-one-still t p m ∙ o .same;
     there = λ r n. fifo-one-there t p m r n ∙ o .there r n;
   }
 
--- what is left outside the FIFO log of p
-pub left-outside : ℕ → State → ℕ
-left-outside p s = tally (s count) (outside-fifo s p)
-
--- a turn leaves one message less outside
-pub outside-falls : (t : State) (p m : ℕ) → m < t count → (¬ In (t (fifo-length p)) (λ j. t (fifo p j)) m)
-    → left-outside p (fifo-one t p m) < left-outside p t
-unfolding left-outside
-outside-falls t p m h out =
-    let f = fifo-one-front t p m in
-    let log : ℕ → ℕ = λ i. t (fifo p i) in
-    let n : ℕ = t (fifo-length p) in
-    subst (λ (k : ℕ). tally k (outside-fifo (fifo-one t p m) p) < tally (t count) (outside-fifo t p))
-    (sym (ap (λ (v : Still). v .ground .messages .total) (fifo-one-still t p m)))
-    (tally-falls (t count) (outside-fifo t p) (outside-fifo (fifo-one t p m) p)
-    (λ x d. out-absent (λ o. absent-out (n + 1) x (at-place log n m)
-    (sym (ap (λ (v : Front). absent (v .fifo-length) x (v .fifo)) f) ∙ d) (in-longer n log m o)))
-    m h (out-absent out)
-    (ap (λ (v : Front). absent (v .fifo-length) m (v .fifo)) f ∙ in-absent (in-new n log m)))
-
--- ---- the cascade
-pub record Cascaded (p a : ℕ) (es : List Event) (b t : State) : Type 0 where
-  pub cascading : Cascading p a es b t
-  pub none-ready : (m : ℕ) → m < t count → ready t p m ≡ false
-
--- the fuel of the cascade suffices
-pub outside-room : (p : ℕ) (s : State) → FifoLogOf (messages s) (process s p)
-    → left-outside p s ≤ s count - s (fifo-length p)
-unfolding left-outside
-outside-room p s f =
-    omega (arith, absent-room (s count) (s (fifo-length p)) (λ j. s (fifo p j)) (f .old) (f .once))
-
--- the cascade keeps the meaning, and ends with nothing ready
-pub cascade-end : (p a : ℕ) (es : List Event) (b : State) → HeldTo b p → Cascading p a es b b
-    → Cascaded p a es b (cascade b p)
+-- ---- the cascade keeps it too
+pub cascading-all : (p a : ℕ) (es : List Event) (b : State) → HeldTo b p → Cascading p a es b b
+    → Cascading p a es b (cascade b p)
 unfolding cascade
-cascade-end p a es b h o =
-    let end =
-    loop-end (λ u. u count) (λ u. ready u p) (λ u. fifo-one u p) (Cascading p a es b) (left-outside p)
-    (λ u m hm e first k. let y = ready-facts u p m e in
-    record { keeps = cascading-more p a es b u h m hm y k; falls = outside-falls u p m hm (y .outside) })
-    (b count - b (fifo-length p)) b o (outside-room p b (o .meaning .fifos p)) in
-    record { cascading = end .kept; none-ready = end .none-left }
+cascading-all p a es b h =
+    loop-keeps (λ u. u count) (λ u. ready u p) (λ u. fifo-one u p) (Cascading p a es b)
+    (λ u m hm e _ k. cascading-more p a es b u h m hm (ready-facts u p m e) k) (b count - b (fifo-length p)) b

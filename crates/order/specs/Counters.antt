@@ -9,15 +9,14 @@ use mathlib.Core.Logic.{_⊎_, inl, inr, _≢_}
 use Prim.Native.Nat.{ℕ, suc, _+_, _≤_, _<_, max}
 use native.Mathlib.Omega.{arith}
 use native.Mathlib.Numerals.{add-one}
-use native.Mathlib.Decide.{ℕ-discrete}
 use lib.Dec.{eqb}
 use borrow.Author.Tests.{eqb-true, ne-eqb}
-use Rattle.base.specs.Tests.{bool-cases, le-or-lt, clash, pick, both, either, both-l, both-r, both-i, eqb-refl}
+use Rattle.base.specs.Tests.{at-or-off, either-l, bool-cases, le-or-lt, clash, pick, both, either, both-l, both-r, both-i, eqb-refl}
 use Rattle.base.specs.Count.{tally, tally-mono, tally-cong, tally-falls, tally-max}
 use Rattle.base.specs.Bits.{bit}
 use Rattle.world.specs.History.{sent, got}
 use Rattle.effects.specs.Views.{Messages}
-use Rattle.order.specs.Knowledge.{Knowledge, learn, Closed, closed-got, before-new, before-old, before-own, closed-sent}
+use Rattle.order.specs.Knowledge.{Knowledge, learn, Closed, closed-got, before-new, before-old, closed-sent}
 
 -- ---- counts
 -- m is to group g
@@ -57,14 +56,14 @@ module _ {n : ℕ} {w : Messages} {k : Knowledge} (c : Counting n w k) where
       → both (k .before m y) (of-to w q g y) ≡ true
   part-of m x g q b y e =
       both-i (k .before m y) (of-to w q g y)
-      (c .closed .before-chain m x y b (both-l (k .before x y) (of-to w q g y) e))
+      (c .closed .before m .chain x y b (both-l (k .before x y) (of-to w q g y) e))
       (both-r (k .before x y) (of-to w q g y) e)
 
   -- so its counters are at most those of m
   pub stamp-le : (m x g q : ℕ) → k .before m x ≡ true → w .stamp x g q ≤ w .stamp m g q
   stamp-le m x g q b =
       let hm = c .closed .before-low m x b in
-      let hx = c .closed .before-le m x b in
+      let hx = c .closed .before m .low x b in
       let l =
       tally-mono (w .total) (λ y. both (k .before m y) (of-to w q g y))
       (λ y. both (k .before x y) (of-to w q g y))
@@ -73,7 +72,7 @@ module _ {n : ℕ} {w : Messages} {k : Knowledge} (c : Counting n w k) where
 
   -- the earlier messages of the same sender are before m
   pub sender-before : (m x : ℕ) → m < w .total → x ≤ m → w .sender x ≡ w .sender m → k .before m x ≡ true
-  sender-before m x h l e = c .closed .before-prefix m m x (c .closed .before-self m h) l e
+  sender-before m x h l e = c .closed .before m .prefix m x (c .closed .before-self m h) l e
 
   -- so a sender's numbers rise
   pub stamp-lt : (m x g : ℕ) → m < w .total → x < m → w .sender x ≡ w .sender m → To w g m
@@ -98,7 +97,7 @@ module _ {n : ℕ} {w : Messages} {k : Knowledge} (c : Counting n w k) where
       above (inr z) = z
       above (inl z) =
           absurd
-          (omega (arith, c .closed .before-le x m (both-l (k .before x m) (of-to w (w .sender m) g m) z)))
+          (omega (arith, c .closed .before x .low m (both-l (k .before x m) (of-to w (w .sender m) g m) z)))
 
   -- a message's counters count some of all
   pub stamp-most : (m g q : ℕ) → m < w .total → w .stamp m g q ≤ all-of w q g
@@ -160,12 +159,12 @@ module _ {n : ℕ} {w : Messages} {k : Knowledge} (c : Counting n w k) (p m : �
           → both (k .past p j) (of-to w q g j) ≡ true
       go i j f d e (inl l) = clash
           (both-i (k .before m i) (of-to w q g i)
-          (c .closed .before-prefix m j i (both-l (k .before m j) (of-to w q g j) e) l
+          (c .closed .before m .prefix j i (both-l (k .before m j) (of-to w q g j) e) l
           (sender-of (k .past p) i f ∙ sym (sender-of (k .before m) j e)))
           (both-r (k .past p i) (of-to w q g i) f)) d
       go i j f d e (inr l) =
           both-i (k .past p j) (of-to w q g j)
-          (c .closed .past-prefix p i j (both-l (k .past p i) (of-to w q g i) f) (omega arith)
+          (c .closed .past p .prefix i j (both-l (k .past p i) (of-to w q g i) f) (omega arith)
           (sender-of (k .before m) j e ∙ sym (sender-of (k .past p) i f)))
           (both-r (k .before m j) (of-to w q g j) e)
 
@@ -208,6 +207,12 @@ tally-more n m f e = ap (λ (k : ℕ). tally k f) (e ∙ add-one n)
 
 module _ {n : ℕ} {w : Messages} {k : Knowledge} {p groups : ℕ} {w′ : Messages} (c : Counting n w k)
     (o : OneMore w k p groups w′) where
+  -- what holds of the new message and of the old ones
+  pub old-or-new : (P : ℕ → Type 0) → P (w .total) → ((x : ℕ) → x < w .total → P x) → (m : ℕ) → m < w′ .total
+      → P m
+  old-or-new P new old m h =
+      at-or-off (w .total) (λ x. x < w′ .total → P x) (λ _. new) (λ x d l. old x (omega (arith, o .total))) m h
+
   of-to-old : (q g x : ℕ) → x < w .total → of-to w′ q g x ≡ of-to w q g x
   of-to-old q g x h = rw (o .old-sender x h, o .old-mask x h)
 
@@ -245,7 +250,7 @@ module _ {n : ℕ} {w : Messages} {k : Knowledge} {p groups : ℕ} {w′ : Messa
 
   -- what was before an older message still is
   pub before-same : (m x : ℕ) → m < w .total → learn (sent p (w .total)) k .before m x ≡ k .before m x
-  before-same m x h = before-old p (c .closed) m x (omega arith)
+  before-same m x h = before-old k p (w .total) m x (omega arith)
 
   -- the new message's number is above that of all its sender's messages
   pub new-above : (g : ℕ) → bit groups g ≡ true → w′ .stamp (w .total) g p ≡ suc (all-of w p g)
@@ -266,45 +271,31 @@ module _ {n : ℕ} {w : Messages} {k : Knowledge} {p groups : ℕ} {w′ : Messa
         subst (λ (t : ℕ). Closed t (w′ .sender) (learn (sent p (w .total)) k))
         (sym (o .total ∙ add-one (w .total)))
         (closed-sent p (c .closed) (w′ .sender) (o .old-sender) (o .new-sender));
-    senders = λ m h. sender-at m h (ℕ-discrete (w .total) m);
-    stamps = λ m g q h. stamp-at m g q h (ℕ-discrete (w .total) m);
-    numbers = λ m g h. number-at m g h (ℕ-discrete (w .total) m);
+    senders = old-or-new (λ m. w′ .sender m < n) (rw (o .new-sender) hp)
+        (λ m l. rw (o .old-sender m l) (c .senders m l));
+    stamps = λ m g q. old-or-new
+        (λ x. w′ .stamp x g q ≡ counted w′ (learn (sent p (w .total)) k .before x) q g)
+        (o .new-stamp g q
+        ∙ sym (counted-more (k .past p) (learn (sent p (w .total)) k .before (w .total)) true
+        itself fresh-past q g))
+        (λ x l. o .old-stamp x g q l ∙ c .stamps x g q l
+        ∙ sym (counted-more (k .before x) (learn (sent p (w .total)) k .before x) false
+        (before-same x (w .total) l
+        ∙ without-new (k .before x) (λ y b. omega (arith, c .closed .before x .low y b)))
+        (λ y _. before-same x y l) q g)) m;
+    numbers = λ m g. old-or-new (λ x. w′ .number x g ≡ w′ .stamp x g (w′ .sender x))
+        (o .new-number g ∙ ap (w′ .stamp (w .total) g) (sym (o .new-sender)))
+        (λ x l. o .old-number x g l ∙ c .numbers x g l ∙ sym (o .old-stamp x g (w .sender x) l)
+        ∙ ap (w′ .stamp x g) (sym (o .old-sender x l))) m;
   }
     where
-      lower : (m : ℕ) → m < w′ .total → w .total ≢ m → m < w .total
-      lower m h e = omega (arith, o .total)
-
-      sender-at : (m : ℕ) → m < w′ .total → Dec (w .total ≡ m) → w′ .sender m < n
-      sender-at m h (yes e) = subst (λ (z : ℕ). w′ .sender z < n) e (rw (o .new-sender) hp)
-      sender-at m h (no e) = rw (o .old-sender m (lower m h e)) (c .senders m (lower m h e))
-
-      number-at : (m g : ℕ) → m < w′ .total → Dec (w .total ≡ m)
-          → w′ .number m g ≡ w′ .stamp m g (w′ .sender m)
-      number-at m g h (yes e) =
-          subst (λ (z : ℕ). w′ .number z g ≡ w′ .stamp z g (w′ .sender z)) e
-          (o .new-number g ∙ ap (w′ .stamp (w .total) g) (sym (o .new-sender)))
-      number-at m g h (no e) =
-          let l = lower m h e in
-          o .old-number m g l ∙ c .numbers m g l ∙ sym (o .old-stamp m g (w .sender m) l)
-          ∙ ap (w′ .stamp m g) (sym (o .old-sender m l))
-
       fresh-past : (x : ℕ) → x < w .total → learn (sent p (w .total)) k .before (w .total) x ≡ k .past p x
-      fresh-past x h = before-new p (c .closed) (w .total) x refl ∙ rw (ne-eqb (w .total) x (omega arith))
+      fresh-past x h = before-new k p (w .total) (w .total) x refl ∙ rw (ne-eqb (w .total) x (omega arith))
 
-      stamp-at : (m g q : ℕ) → m < w′ .total → Dec (w .total ≡ m)
-          → w′ .stamp m g q ≡ counted w′ (learn (sent p (w .total)) k .before m) q g
-      stamp-at m g q h (yes e) =
-          subst (λ (z : ℕ). w′ .stamp z g q ≡ counted w′ (learn (sent p (w .total)) k .before z) q g) e
-          (o .new-stamp g q
-          ∙ sym (counted-more (k .past p) (learn (sent p (w .total)) k .before (w .total)) true
-          (before-own p (c .closed) (w .total) (w .total) refl (inl refl)) fresh-past q g))
-      stamp-at m g q h (no e) =
-          let l = lower m h e in
-          o .old-stamp m g q l ∙ c .stamps m g q l
-          ∙ sym (counted-more (k .before m) (learn (sent p (w .total)) k .before m) false
-          (before-same m (w .total) l
-          ∙ without-new (k .before m) (λ x b. omega (arith, c .closed .before-le m x b)))
-          (λ x _. before-same m x l) q g)
+      itself : learn (sent p (w .total)) k .before (w .total) (w .total) ≡ true
+      itself =
+          before-new k p (w .total) (w .total) (w .total) refl
+          ∙ either-l (eqb (w .total) (w .total)) (k .past p (w .total)) (eqb-refl (w .total))
 
   -- the counters of a process after it
   pub counter-sent : (r g q v : ℕ) → v ≡ counted w (k .past r) q g
@@ -316,7 +307,7 @@ module _ {n : ℕ} {w : Messages} {k : Knowledge} {p groups : ℕ} {w′ : Messa
     where
       at-new : learn (sent p (w .total)) k .past r (w .total) ≡ eqb p r
       at-new =
-          rw (eqb-refl (w .total), without-new (k .past r) (λ x b. c .closed .past-low r x b)) (go (eqb p r))
+          rw (eqb-refl (w .total), without-new (k .past r) (λ x b. c .closed .past r .low x b)) (go (eqb p r))
         where
           go : (b : Bool) → either (both b true) false ≡ b
           go true = refl

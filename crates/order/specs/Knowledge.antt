@@ -5,14 +5,14 @@
 use mathlib.Core.Path.{_≡_, refl, sym, ap, _∙_, subst}
 use mathlib.Core.Bool.{Bool, true, false}
 use mathlib.Core.List.{List, [], _∷_}
-use mathlib.Core.Logic.{_⊎_, inl, inr, _≢_}
+use mathlib.Core.Logic.{inl, inr, _≢_}
 use Prim.Native.Nat.{ℕ, suc, _≤_, _<_}
 use native.Mathlib.Omega.{arith}
 use native.Mathlib.Nat.{not-suc-le-zero}
 use native.Mathlib.Decide.{ℕ-discrete}
 use lib.Dec.{eqb}
 use borrow.Author.Tests.{eqb-true, eq-eqb, ne-eqb}
-use Rattle.base.specs.Tests.{clash, pick, both, either, both-l, both-r, both-i, either-e, either-l, either-r}
+use Rattle.base.specs.Tests.{clash, pick, both, either, both-i, either-e, either-l, either-r}
 use Rattle.world.specs.History.{Event, sent, got}
 
 -- ---- the sets
@@ -36,203 +36,166 @@ unfoldable pub knowledge : List Event → Knowledge
 knowledge [] = record { past = λ q x. false; before = λ n x. false }
 knowledge (e ∷ es) = learn e (knowledge es)
 
--- ---- the sets of n messages with these senders are closed
+-- what was known still is
+pub past-grows : (e : Event) (k : Knowledge) (q x : ℕ) → k .past q x ≡ true → learn e k .past q x ≡ true
+past-grows (sent p m) k q x a = either-r (both (eqb p q) (eqb m x)) (k .past q x) a
+past-grows (got p m) k q x a = either-r (both (eqb p q) (k .before m x)) (k .past q x) a
+
+-- before the message n that p multicasts is p's past, and itself
+pub before-new : (k : Knowledge) (p n m x : ℕ) → n ≡ m
+    → learn (sent p n) k .before m x ≡ either (eqb n x) (k .past p x)
+before-new k p n m x e = rw (eq-eqb n m e)
+
+-- before another message is what was
+pub before-old : (k : Knowledge) (p n m x : ℕ) → n ≢ m → learn (sent p n) k .before m x ≡ k .before m x
+before-old k p n m x e = rw (ne-eqb n m e)
+
+-- ---- closed sets
+-- a set of messages below b that has, with a message, all that is before it and its sender's earlier ones
+pub record Closure (sender : ℕ → ℕ) (before : ℕ → ℕ → Bool) (b : ℕ) (f : ℕ → Bool) : Type 0 where
+  pub low : (x : ℕ) → f x ≡ true → x < b
+  pub chain : (x y : ℕ) → f x ≡ true → before x y ≡ true → f y ≡ true
+  pub prefix : (x y : ℕ) → f x ≡ true → y ≤ x → sender y ≡ sender x → f y ≡ true
+
+-- the sets of n messages with these senders are such
 pub record Closed (n : ℕ) (sender : ℕ → ℕ) (k : Knowledge) : Type 0 where
-  pub before-le : (m x : ℕ) → k .before m x ≡ true → x ≤ m
+  pub past : (p : ℕ) → Closure sender (k .before) n (k .past p)
+  pub before : (m : ℕ) → Closure sender (k .before) (suc m) (k .before m)
   pub before-low : (m x : ℕ) → k .before m x ≡ true → m < n
-  pub past-low : (p x : ℕ) → k .past p x ≡ true → x < n
   pub before-self : (m : ℕ) → m < n → k .before m m ≡ true
-  pub before-chain : (m x y : ℕ) → k .before m x ≡ true → k .before x y ≡ true → k .before m y ≡ true
-  pub past-chain : (p x y : ℕ) → k .past p x ≡ true → k .before x y ≡ true → k .past p y ≡ true
-  pub before-prefix : (m x y : ℕ) → k .before m x ≡ true → y ≤ x → sender y ≡ sender x → k .before m y ≡ true
-  pub past-prefix : (p x y : ℕ) → k .past p x ≡ true → y ≤ x → sender y ≡ sender x → k .past p y ≡ true
   pub past-own : (m : ℕ) → m < n → k .past (sender m) m ≡ true
+
+-- the empty set
+empty : {sender : ℕ → ℕ} {before : ℕ → ℕ → Bool} {b : ℕ} → Closure sender before b (λ x. false)
+empty = record { low = λ x e. clash e refl; chain = λ x y e d. e; prefix = λ x y e h q. e }
 
 -- nothing is known at first
 pub closed-fresh : (sender : ℕ → ℕ) → Closed 0 sender (knowledge [])
 unfolding knowledge
 closed-fresh sender = record {
-  before-le = λ m x e. clash e refl;
+  past = λ p. empty;
+  before = λ m. empty;
   before-low = λ m x e. clash e refl;
-  past-low = λ p x e. clash e refl;
   before-self = λ m h. absurd (not-suc-le-zero h);
-  before-chain = λ m x y e d. e;
-  past-chain = λ p x y e d. e;
-  before-prefix = λ m x y e h q. e;
-  past-prefix = λ p x y e h q. e;
   past-own = λ m h. absurd (not-suc-le-zero h);
 }
 
--- ---- a delivery of m by p
-module _ {n : ℕ} {sender : ℕ → ℕ} {k : Knowledge} (p m : ℕ) (c : Closed n sender k) where
-  -- what q knows of then: what it knew of, or, if q is p, what is before m
-  learnt : (q x : ℕ) → learn (got p m) k .past q x ≡ true
-      → ((eqb p q ≡ true) × (k .before m x ≡ true)) ⊎ (k .past q x ≡ true)
-  learnt q x e = elim (either-e (both (eqb p q) (k .before m x)) (k .past q x) e) [
-    | inl a ↦ inl (both-l (eqb p q) (k .before m x) a, both-r (eqb p q) (k .before m x) a)
-    | inr a ↦ inr a
-  ]
-
-  -- all that is before m
-  from-m : (q x : ℕ) → eqb p q ≡ true → k .before m x ≡ true → learn (got p m) k .past q x ≡ true
-  from-m q x a b =
-      either-l (both (eqb p q) (k .before m x)) (k .past q x) (both-i (eqb p q) (k .before m x) a b)
-
-  -- and all that was known
-  from-past : (q x : ℕ) → k .past q x ≡ true → learn (got p m) k .past q x ≡ true
-  from-past q x a = either-r (both (eqb p q) (k .before m x)) (k .past q x) a
-
-  -- the sets stay closed
-  pub closed-got : Closed n sender (learn (got p m) k)
-  closed-got = record {
-    before-le = c .before-le;
-    before-low = c .before-low;
-    past-low = λ q x e. elim (learnt q x e) [
-      | inl a ↦ omega (arith, c .before-le m x (a .1), c .before-low m x (a .1))
-      | inr a ↦ c .past-low q x a
-    ];
-    before-self = c .before-self;
-    before-chain = c .before-chain;
-    past-chain = λ q x y e d. elim (learnt q x e) [
-      | inl a ↦ from-m q y (a .0) (c .before-chain m x y (a .1) d)
-      | inr a ↦ from-past q y (c .past-chain q x y a d)
-    ];
-    before-prefix = c .before-prefix;
-    past-prefix = λ q x y e h f. elim (learnt q x e) [
-      | inl a ↦ from-m q y (a .0) (c .before-prefix m x y (a .1) h f)
-      | inr a ↦ from-past q y (c .past-prefix q x y a h f)
-    ];
-    past-own = λ x h. from-past (sender x) x (c .past-own x h);
-  }
+-- ---- a delivery of m by p: its past is the union of two such sets
+pub closed-got : {n : ℕ} {sender : ℕ → ℕ} {k : Knowledge} (p m : ℕ) → Closed n sender k
+    → Closed n sender (learn (got p m) k)
+closed-got {n} {sender} {k} p m c = record {
+  past = λ q. union q (eqb p q);
+  before = c .before;
+  before-low = c .before-low;
+  before-self = c .before-self;
+  past-own = λ x h. past-grows (got p m) k (sender x) x (c .past-own x h);
+}
+  where
+    union : (q : ℕ) (b : Bool)
+        → Closure sender (k .before) n (λ x. either (both b (k .before m x)) (k .past q x))
+    union q false = c .past q
+    union q true = record {
+      low = λ x e. elim (either-e (k .before m x) (k .past q x) e) [
+        | inl a ↦ omega (arith, c .before m .low x a, c .before-low m x a)
+        | inr a ↦ c .past q .low x a
+      ];
+      chain = λ x y e d. elim (either-e (k .before m x) (k .past q x) e) [
+        | inl a ↦ either-l (k .before m y) (k .past q y) (c .before m .chain x y a d)
+        | inr a ↦ either-r (k .before m y) (k .past q y) (c .past q .chain x y a d)
+      ];
+      prefix = λ x y e h s. elim (either-e (k .before m x) (k .past q x) e) [
+        | inl a ↦ either-l (k .before m y) (k .past q y) (c .before m .prefix x y a h s)
+        | inr a ↦ either-r (k .before m y) (k .past q y) (c .past q .prefix x y a h s)
+      ];
+    }
 
 -- ---- p multicasts message n
-module _ {n : ℕ} {sender : ℕ → ℕ} {k : Knowledge} (p : ℕ) (c : Closed n sender k) where
-  past-cases : (q x : ℕ) → learn (sent p n) k .past q x ≡ true → ((p ≡ q) × (n ≡ x)) ⊎ (k .past q x ≡ true)
-  past-cases q x e = elim (either-e (both (eqb p q) (eqb n x)) (k .past q x) e) [
-    | inl a ↦ inl (eqb-true p q (both-l (eqb p q) (eqb n x) a), eqb-true n x (both-r (eqb p q) (eqb n x) a))
-    | inr a ↦ inr a
-  ]
+module _ {n : ℕ} {sender : ℕ → ℕ} {k : Knowledge} (p : ℕ) (c : Closed n sender k) (sender′ : ℕ → ℕ)
+    (old : (x : ℕ) → x < n → sender′ x ≡ sender x) (new : sender′ n ≡ p) where
+  -- a closed set of older messages stays one
+  still-closed : {b : ℕ} {f : ℕ → Bool} → ((x : ℕ) → f x ≡ true → x < n) → Closure sender (k .before) b f
+      → Closure sender′ (learn (sent p n) k .before) b f
+  still-closed less d = record {
+    low = d .low;
+    chain = λ x y e z.
+        let l = less x e in
+        d .chain x y e (sym (before-old k p n x y (omega arith)) ∙ z);
+    prefix = λ x y e h s.
+        let l = less x e in
+        d .prefix x y e h (sym (old y (omega arith)) ∙ s ∙ old x l);
+  }
 
-  -- p knows of it
-  past-new : (q x : ℕ) → p ≡ q → n ≡ x → learn (sent p n) k .past q x ≡ true
-  past-new q x a b =
-      either-l (both (eqb p q) (eqb n x)) (k .past q x)
-      (both-i (eqb p q) (eqb n x) (eq-eqb p q a) (eq-eqb n x b))
-
-  -- and all know what they knew
-  past-old : (q x : ℕ) → k .past q x ≡ true → learn (sent p n) k .past q x ≡ true
-  past-old q x a = either-r (both (eqb p q) (eqb n x)) (k .past q x) a
-
-  -- before the new message is its sender's past, and itself
-  pub before-new : (m x : ℕ) → n ≡ m → learn (sent p n) k .before m x ≡ either (eqb n x) (k .past p x)
-  before-new m x e = rw (eq-eqb n m e)
-
-  -- before another message is what was
-  pub before-old : (m x : ℕ) → n ≢ m → learn (sent p n) k .before m x ≡ k .before m x
-  before-old m x e = rw (ne-eqb n m e)
-
-  -- what is before a message then
-  before-cases : (m x : ℕ) → learn (sent p n) k .before m x ≡ true
-      → ((n ≡ m) × ((n ≡ x) ⊎ (k .past p x ≡ true))) ⊎ ((n ≢ m) × (k .before m x ≡ true))
-  before-cases m x e = go (ℕ-discrete n m)
+  -- p's past with the new message is one
+  with-new : Closure sender′ (learn (sent p n) k .before) (suc n) (λ x. either (eqb n x) (k .past p x))
+  with-new = record {
+    low = λ x e. elim (either-e (eqb n x) (k .past p x) e) [
+      | inl a ↦ omega (arith, eqb-true n x a)
+      | inr a ↦ omega (arith, c .past p .low x a)
+    ];
+    chain = λ x y e z. elim (either-e (eqb n x) (k .past p x) e) [
+      | inl a ↦ sym (before-new k p n x y (eqb-true n x a)) ∙ z
+      | inr a ↦ either-r (eqb n y) (k .past p y) (older .chain x y a z)
+    ];
+    prefix = λ x y e h s. elim (either-e (eqb n x) (k .past p x) e) [
+      | inl a ↦ mine x y (eqb-true n x a) h s (ℕ-discrete n y)
+      | inr a ↦ either-r (eqb n y) (k .past p y) (older .prefix x y a h s)
+    ];
+  }
     where
-      go : Dec (n ≡ m) → ((n ≡ m) × ((n ≡ x) ⊎ (k .past p x ≡ true))) ⊎ ((n ≢ m) × (k .before m x ≡ true))
-      go (no a) = inr (a, sym (before-old m x a) ∙ e)
-      go (yes a) = inl (
-        a,
-        elim (either-e (eqb n x) (k .past p x) (sym (before-new m x a) ∙ e)) [
-          | inl b ↦ inl (eqb-true n x b)
-          | inr b ↦ inr b
-        ],
-      )
+      older : Closure sender′ (learn (sent p n) k .before) n (k .past p)
+      older = still-closed (c .past p .low) (c .past p)
 
-  -- what is before the new one
-  pub before-own : (m x : ℕ) → n ≡ m → (n ≡ x) ⊎ (k .past p x ≡ true) → learn (sent p n) k .before m x ≡ true
-  before-own m x a (inl b) = before-new m x a ∙ either-l (eqb n x) (k .past p x) (eq-eqb n x b)
-  before-own m x a (inr b) = before-new m x a ∙ either-r (eqb n x) (k .past p x) b
+      -- an earlier message of p's is in p's past
+      mine : (x y : ℕ) → n ≡ x → y ≤ x → sender′ y ≡ sender′ x → Dec (n ≡ y)
+          → either (eqb n y) (k .past p y) ≡ true
+      mine x y a h s (yes b) = either-l (eqb n y) (k .past p y) (eq-eqb n y b)
+      mine x y a h s (no b) =
+          let l : y < n = omega arith in
+          either-r (eqb n y) (k .past p y)
+          (subst (λ (z : ℕ). k .past z y ≡ true) (sym (old y l) ∙ s ∙ ap sender′ (sym a) ∙ new)
+          (c .past-own y l))
 
-  -- what was before a message still is
-  before-kept : (m x : ℕ) → k .before m x ≡ true → learn (sent p n) k .before m x ≡ true
-  before-kept m x b = let h = c .before-low m x b in before-old m x (omega arith) ∙ b
+  pub closed-sent : Closed (suc n) sender′ (learn (sent p n) k)
+  closed-sent = record {
+    past = λ q. pasts q (eqb p q) refl;
+    before = λ m. befores m (eqb n m) refl;
+    before-low = λ m x e. lows m x e (ℕ-discrete n m);
+    before-self = λ m h. selves m h (ℕ-discrete n m);
+    past-own = λ m h. owns m h (ℕ-discrete n m);
+  }
+    where
+      pasts : (q : ℕ) (b : Bool) → eqb p q ≡ b
+          → Closure sender′ (learn (sent p n) k .before) (suc n)
+          (λ x. either (both b (eqb n x)) (k .past q x))
+      pasts q true e =
+          subst (λ (r : ℕ). Closure sender′ (learn (sent p n) k .before) (suc n)
+          (λ x. either (eqb n x) (k .past r x))) (eqb-true p q e) with-new
+      pasts q false e =
+          let d = still-closed (c .past q .low) (c .past q) in
+          record { low = λ x z. omega (arith, d .low x z); chain = d .chain; prefix = d .prefix }
 
-  module _ (sender′ : ℕ → ℕ) (old : (x : ℕ) → x < n → sender′ x ≡ sender x) (new : sender′ n ≡ p) where
-    -- what was before an older message still is just that
-    back : (x y : ℕ) → learn (sent p n) k .before x y ≡ true → x < n → k .before x y ≡ true
-    back x y d h = sym (before-old x y (omega arith)) ∙ d
+      befores : (m : ℕ) (b : Bool) → eqb n m ≡ b
+          → Closure sender′ (learn (sent p n) k .before) (suc m)
+          (λ x. pick b (either (eqb n x) (k .past p x)) (k .before m x))
+      befores m true e =
+          subst (λ (b : ℕ). Closure sender′ (learn (sent p n) k .before) (suc b)
+          (λ x. either (eqb n x) (k .past p x))) (eqb-true n m e) with-new
+      befores m false e =
+          still-closed (λ x z. omega (arith, c .before m .low x z, c .before-low m x z)) (c .before m)
 
-    same-sender : (x y : ℕ) → x < n → y ≤ x → sender′ y ≡ sender′ x → sender y ≡ sender x
-    same-sender x y h l f = sym (old y (omega arith)) ∙ f ∙ old x h
+      lows : (m x : ℕ) → learn (sent p n) k .before m x ≡ true → Dec (n ≡ m) → m < suc n
+      lows m x e (yes a) = omega arith
+      lows m x e (no a) = omega (arith, c .before-low m x (sym (before-old k p n m x a) ∙ e))
 
-    -- an earlier message of p's is in p's past
-    mine : (x y : ℕ) → n ≡ x → y ≤ x → sender′ y ≡ sender′ x → (n ≡ y) ⊎ (k .past p y ≡ true)
-    mine x y a h f = go (ℕ-discrete n y)
-      where
-        go : Dec (n ≡ y) → (n ≡ y) ⊎ (k .past p y ≡ true)
-        go (yes b) = inl b
-        go (no b) =
-            let l : y < n = omega arith in
-            let w : sender y ≡ p = sym (old y l) ∙ f ∙ ap sender′ (sym a) ∙ new in
-            inr (subst (λ (z : ℕ). k .past z y ≡ true) w (c .past-own y l))
+      selves : (m : ℕ) → m < suc n → Dec (n ≡ m) → learn (sent p n) k .before m m ≡ true
+      selves m h (yes a) = before-new k p n m m a ∙ either-l (eqb n m) (k .past p m) (eq-eqb n m a)
+      selves m h (no a) = before-old k p n m m a ∙ c .before-self m (omega arith)
 
-    pub closed-sent : Closed (suc n) sender′ (learn (sent p n) k)
-    closed-sent = record {
-      before-le = λ m x e. elim (before-cases m x e) [
-        | inl a ↦ elim (a .1) [ inl b ↦ omega (arith, a .0) | inr b ↦ omega (arith, a .0, c .past-low p x b) ]
-        | inr a ↦ c .before-le m x (a .1)
-      ];
-      before-low = λ m x e. elim (before-cases m x e) [
-        | inl a ↦ omega (arith, a .0)
-        | inr a ↦ omega (arith, c .before-low m x (a .1))
-      ];
-      past-low = λ q x e. elim (past-cases q x e) [
-        | inl a ↦ omega (arith, a .1)
-        | inr a ↦ omega (arith, c .past-low q x a)
-      ];
-      before-self = λ m h. selves m h (ℕ-discrete n m);
-      before-chain = λ m x y e d. elim (before-cases m x e) [
-        | inl a ↦ elim (a .1) [
-          | inl b ↦ subst (λ (z : ℕ). learn (sent p n) k .before z y ≡ true) (sym b ∙ a .0) d
-          | inr b ↦ before-own m y (a .0) (inr (c .past-chain p x y b (back x y d (c .past-low p x b))))
-        ]
-        | inr a ↦ before-kept m y (c .before-chain m x y (a .1) (back x y d (low m x (a .1))))
-      ];
-      past-chain = λ q x y e d. elim (past-cases q x e) [
-        | inl a ↦ elim (before-cases x y d) [
-          | inl b ↦ elim (b .1) [
-            | inl f ↦ past-new q y (a .0) f
-            | inr f ↦ past-old q y (subst (λ (z : ℕ). k .past z y ≡ true) (a .0) f)
-          ]
-          | inr b ↦ absurd (b .0 (a .1))
-        ]
-        | inr a ↦ past-old q y (c .past-chain q x y a (back x y d (c .past-low q x a)))
-      ];
-      before-prefix = λ m x y e h f. elim (before-cases m x e) [
-        | inl a ↦ before-own m y (a .0) (elim (a .1) [
-          | inl b ↦ mine x y b h f
-          | inr b ↦ inr (c .past-prefix p x y b h (same-sender x y (c .past-low p x b) h f))
-        ])
-        | inr a ↦ before-kept m y (c .before-prefix m x y (a .1) h (same-sender x y (low m x (a .1)) h f))
-      ];
-      past-prefix = λ q x y e h f. elim (past-cases q x e) [
-        | inl a ↦ elim (mine x y (a .1) h f) [
-          | inl b ↦ past-new q y (a .0) b
-          | inr b ↦ past-old q y (subst (λ (z : ℕ). k .past z y ≡ true) (a .0) b)
-        ]
-        | inr a ↦ past-old q y (c .past-prefix q x y a h (same-sender x y (c .past-low q x a) h f))
-      ];
-      past-own = λ m h. owns m h (ℕ-discrete n m);
-    }
-      where
-        low : (m x : ℕ) → k .before m x ≡ true → x < n
-        low m x b = omega (arith, c .before-le m x b, c .before-low m x b)
-
-        selves : (m : ℕ) → m < suc n → Dec (n ≡ m) → learn (sent p n) k .before m m ≡ true
-        selves m h (yes a) = before-own m m a (inl a)
-        selves m h (no a) = before-kept m m (c .before-self m (omega arith))
-
-        owns : (m : ℕ) → m < suc n → Dec (n ≡ m) → learn (sent p n) k .past (sender′ m) m ≡ true
-        owns m h (yes a) = past-new (sender′ m) m (sym new ∙ ap sender′ a) a
-        owns m h (no a) =
-            let l : m < n = omega arith in
-            subst (λ (z : ℕ). learn (sent p n) k .past z m ≡ true) (sym (old m l))
-            (past-old (sender m) m (c .past-own m l))
+      owns : (m : ℕ) → m < suc n → Dec (n ≡ m) → learn (sent p n) k .past (sender′ m) m ≡ true
+      owns m h (yes a) =
+          either-l (both (eqb p (sender′ m)) (eqb n m)) (k .past (sender′ m) m)
+          (both-i (eqb p (sender′ m)) (eqb n m) (eq-eqb p (sender′ m) (sym new ∙ ap sender′ a)) (eq-eqb n m a))
+      owns m h (no a) =
+          let l : m < n = omega arith in
+          past-grows (sent p n) k (sender′ m) m
+          (subst (λ (z : ℕ). k .past z m ≡ true) (sym (old m l)) (c .past-own m l))

@@ -16,7 +16,7 @@ use Rattle.world.specs.History.{sent}
 use Rattle.effects.specs.Views.{Messages, Process}
 use Rattle.effects.specs.Cascade.{at-place, fifo-delivered, causal-delivered}
 use Rattle.order.specs.Knowledge.{Knowledge, learn}
-use Rattle.order.specs.Counters.{To, all-of, Counting, stamp-le, sender-before, stamp-lt, stamp-most, OneMore, all-grows, before-same, new-above}
+use Rattle.order.specs.Counters.{To, all-of, Counting, stamp-le, sender-before, stamp-lt, stamp-most, OneMore, old-or-new, all-grows, before-same, new-above}
 
 -- ---- a list with one more item
 pub at-here : (f : ℕ → ℕ) (i v : ℕ) → at-place f i v i ≡ v
@@ -144,27 +144,17 @@ module _ {s : ℕ} {w : Messages} {k : Knowledge} {p groups : ℕ} {w′ : Messa
     in-below = λ i h.
         let hi = old i h in
         rw (x .old-sender (log i) hi) (omega (arith, rank-old (log i) hi, o .in-below i h));
-    below-in = λ m h t l. inside m h t l (ℕ-discrete (w .total) m);
+    below-in = old-or-new c x (λ m. To w′ g m → e + rank w′ g m ≤ bound (w′ .sender m) → In n log m)
+        (λ t l. absurd (omega (
+          arith,
+          o .most p,
+          new-above c x g (subst (λ (v : ℕ). bit v g ≡ true) (x .new-mask) t),
+          ap bound (x .new-sender),
+          ap (w′ .stamp (w .total) g) (x .new-sender),
+        )))
+        (λ m h t l. o .below-in m h (to-old m h t) (omega (arith, rank-old m h, ap bound (x .old-sender m h))));
     most = λ q. omega (arith, o .most q, all-grows c x q g);
   }
-    where
-      inside : (m : ℕ) → m < w′ .total → To w′ g m → e + rank w′ g m ≤ bound (w′ .sender m)
-          → Dec (w .total ≡ m) → In n log m
-      inside m h t l (no d) =
-          let hm : m < w .total = omega (arith, x .total) in
-          o .below-in m hm (to-old m hm t) (omega (arith, rank-old m hm, ap bound (x .old-sender m hm)))
-      inside m h t l (yes d) =
-          let t′ : bit groups g ≡ true =
-          subst (λ (v : ℕ). bit v g ≡ true) (x .new-mask) (subst (λ (z : ℕ). To w′ g z) (sym d) t) in
-          let l′ = subst (λ (z : ℕ). e + rank w′ g z ≤ bound (w′ .sender z)) (sym d) l in
-          absurd (omega (
-            arith,
-            l′,
-            o .most p,
-            new-above c x g t′,
-            ap bound (x .new-sender),
-            ap (w′ .stamp (w .total) g) (x .new-sender),
-          ))
 
 -- ---- the FIFO log
 pub record FifoLog (w : Messages) (g n : ℕ) (log next : ℕ → ℕ) : Type 0 where
@@ -282,7 +272,7 @@ module _ {n : ℕ} {w : Messages} {k : Knowledge} {r : Process} (c : Counting n 
   before-in x b ne t = go (ℕ-discrete (w .sender x) (w .sender (r .fifo i)))
     where
       lx : x < r .fifo i
-      lx = omega (arith, c .closed .before-le (r .fifo i) x b)
+      lx = omega (arith, c .closed .before (r .fifo i) .low x b)
 
       hx : x < w .total
       hx = omega (arith, lx, f .old i hi)
@@ -363,7 +353,7 @@ module _ {s : ℕ} {w : Messages} {k : Knowledge} {p groups : ℕ} {w′ : Messa
     order = λ i y h b ne t.
         let hi = causal-old o i h in
         let b′ = sym (before-same c x (r .causal i) y hi) ∙ b in
-        let hy = c .closed .before-le (r .causal i) y b′ in
+        let hy = c .closed .before (r .causal i) .low y b′ in
         o .order i y h b′ ne (to-old c x (r .group) y (omega arith) t);
     prefix = prefix-sent c x (r .group) (causal-old o) (o .prefix);
   }

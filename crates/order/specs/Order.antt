@@ -20,7 +20,7 @@ use Rattle.order.specs.Knowledge.{Knowledge, knowledge}
 use Rattle.order.specs.Precedence.{Cast, cast-at, cast-there, precedes-before, before-precedes}
 use Rattle.order.specs.Counters.{To, of-to, of, to, counted, all-of, Counting, sender-before}
 use Rattle.order.specs.Logs.{FifoLogOf, CausalLog, waits, Stuck, Quiet}
-use Rattle.order.specs.Cascade.{MeaningOf}
+use Rattle.order.specs.Cascade.{Fifo, Causal, MeaningOf}
 use Rattle.order.specs.Runs.{Whole, whole-started, whole-run}
 
 -- ---- conclusion 1 from right to left, over the views
@@ -88,10 +88,10 @@ module _ {n : ℕ} {w : Messages} {k : Knowledge} {r : Process} (c : Counting n 
           all : (x : ℕ) → k .before m x ≡ true → x ≢ m → To w (r .group) x
               → In (r .causal-length) (r .causal) x
           all x b ne t =
-              let l = c .closed .before-le m x b in
+              let l = c .closed .before m .low x b in
               ih x (omega arith) (past x b ne t) (λ y b′ ne′ t′.
-              let l′ = c .closed .before-le x y b′ in
-              past y (c .closed .before-chain m x y b b′) (omega arith) t′)
+              let l′ = c .closed .before x .low y b′ in
+              past y (c .closed .before m .chain x y b b′) (omega arith) t′)
 
           go : Stuck n w r (r .fifo i) → In (r .causal-length) (r .causal) m
           go (inl a) = subst (In (r .causal-length) (r .causal)) e a
@@ -102,15 +102,6 @@ module _ {n : ℕ} {w : Messages} {k : Knowledge} {r : Process} (c : Counting n 
                     (λ y. ne (y ∙ ap (w .sender) (sym e))),
                 ap (λ (y : ℕ). w .stamp y (r .group) q) e,
               ))
-
--- ---- the logs of a state
--- "A process has FIFO-delivered or causally delivered exactly the messages in its log of that name"
-abbrev pub Fifo : State → ℕ → ℕ → Type 0
-Fifo s p m = In (s (fifo-length p)) (λ i. s (fifo p i)) m
-
--- the same of the causal log
-abbrev pub Causal : State → ℕ → ℕ → Type 0
-Causal s p m = In (s (causal-length p)) (λ i. s (causal p i)) m
 
 -- ---- the two conclusions
 module _ {r : Run State} (w : Whole r) (p : ℕ) where
@@ -123,7 +114,7 @@ module _ {r : Run State} (w : Whole r) (p : ℕ) where
       → Fifo (r .now) p m
       × ((x : ℕ) → Before (r .seen) x m → addressed (r .now) x p ≡ true → Fifo (r .now) p x)
   causal-past m (in-at i h e) =
-      let o = w .meaning .causals p in (
+      let o = w .meaning .each p .causal-log in (
         subst (Fifo (r .now) p) e (o .in-fifo i h),
         λ x b t. (let y = to-before x m b in
             elim (o .order i x h (subst (λ (z : ℕ). knowledge (r .seen) .before z x ≡ true) (sym e) (y .0))
@@ -137,25 +128,25 @@ module _ {r : Run State} (w : Whole r) (p : ℕ) where
       → ((x : ℕ) → Before (r .seen) x m → addressed (r .now) x p ≡ true → Fifo (r .now) p x)
       → Causal (r .now) p m
   past-causal m f all =
-      all-delivered (w .meaning .counting) (w .meaning .fifos p) (w .meaning .causals p) (w .quiet p) m f
+      all-delivered (w .meaning .counting) (w .meaning .each p .fifo-log) (w .meaning .each p .causal-log) (w .quiet p) m f
       (λ x b ne t. all x (before-precedes (r .seen) (r .now count) (w .formed) x m b ne) t)
 
   -- conclusion 2: no causal log holds a message twice
   pub causal-once : (i j : ℕ) → i < j → j < r .now (causal-length p)
       → r .now (causal p i) ≢ r .now (causal p j)
-  causal-once = w .meaning .causals p .once
+  causal-once = w .meaning .each p .causal-log .once
 
   -- or ahead of one that precedes it
   pub causal-ordered : (i j : ℕ) → i < r .now (causal-length p) → j < r .now (causal-length p)
       → Before (r .seen) (r .now (causal p j)) (r .now (causal p i)) → j < i
   causal-ordered i j hi hj b =
-      let o = w .meaning .causals p in
+      let o = w .meaning .each p .causal-log in
       let y = to-before (r .now (causal p j)) (r .now (causal p i)) b in
       go (o .order i (r .now (causal p j)) hi (y .0) (y .1) (to-p (o .in-fifo j hj)))
     where
       to-p : Fifo (r .now) p (r .now (causal p j)) → addressed (r .now) (r .now (causal p j)) p ≡ true
       to-p (in-at l h e) =
-          subst (λ (z : ℕ). addressed (r .now) z p ≡ true) e (w .meaning .fifos p .to-group l h)
+          subst (λ (z : ℕ). addressed (r .now) z p ≡ true) e (w .meaning .each p .fifo-log .to-group l h)
 
       go : In i (λ l. r .now (causal p l)) (r .now (causal p j)) → j < i
       go (in-at l h e) = same-place (ℕ-discrete l j) (le-or-lt l j)
@@ -170,11 +161,11 @@ module _ {r : Run State} (w : Whole r) (p : ℕ) where
   pub fifo-order : (i x : ℕ) → i < r .now (fifo-length p) → x < r .now (fifo p i)
       → r .now (sender x) ≡ r .now (sender (r .now (fifo p i))) → addressed (r .now) x p ≡ true
       → In i (λ j. r .now (fifo p j)) x
-  fifo-order = w .meaning .fifos p .order
+  fifo-order = w .meaning .each p .fifo-log .order
 
   -- the second conclusion for the FIFO logs: no FIFO log holds a message twice
   pub fifo-once : (i j : ℕ) → i < j → j < r .now (fifo-length p) → r .now (fifo p i) ≢ r .now (fifo p j)
-  fifo-once = w .meaning .fifos p .once
+  fifo-once = w .meaning .each p .fifo-log .once
 
 -- p multicast m
 pub data Multicast (es : List Event) (p m : ℕ) : Type 0 where
@@ -202,11 +193,11 @@ pub record Integrity (s : State) (es : List Event) (p : ℕ) : Type 0 where
 -- of every process after every run
 pub uniform-integrity : {r : Run State} → Whole r → (p : ℕ) → Integrity (r .now) (r .seen) p
 uniform-integrity {r} w p = record {
-  fifo-multicast = λ i h. was-multicast w (r .now (fifo p i)) (w .meaning .fifos p .old i h);
-  fifo-addressee = w .meaning .fifos p .to-group;
-  fifo-at-most-once = w .meaning .fifos p .once;
-  causal-in-fifo = w .meaning .causals p .in-fifo;
-  causal-at-most-once = w .meaning .causals p .once;
+  fifo-multicast = λ i h. was-multicast w (r .now (fifo p i)) (w .meaning .each p .fifo-log .old i h);
+  fifo-addressee = w .meaning .each p .fifo-log .to-group;
+  fifo-at-most-once = w .meaning .each p .fifo-log .once;
+  causal-in-fifo = w .meaning .each p .causal-log .in-fifo;
+  causal-at-most-once = w .meaning .each p .causal-log .once;
 }
 
 -- ---- what each counter means. The past of p, and what is before m, are those of the history (Knowledge).
@@ -227,20 +218,20 @@ pub record CounterMeaning (s : State) (k : Knowledge) : Type 0 where
 -- of every run
 pub counter-meaning : {r : Run State} → Whole r → CounterMeaning (r .now) (knowledge (r .seen))
 counter-meaning {r} w = record {
-  counters = o .counters;
-  sequences = o .sequences;
+  counters = λ p. o .each p .counters;
+  sequences = λ p. o .each p .sequences;
   stamps = o .counting .stamps;
   numbers = λ m g h. o .counting .numbers m g h ∙ o .counting .stamps m g (r .now (sender m)) h;
   nexts = λ p m h t. (
-    (λ f. let b = below 1 (λ x. r .now (next p x)) (r .now (group p)) f (o .fifos p .prefix .in-below) in
+    (λ f. let b = below 1 (λ x. r .now (next p x)) (r .now (group p)) f (o .each p .fifo-log .prefix .in-below) in
         omega (arith, b, o .counting .numbers m (r .now (group p)) h)),
-    (λ l. o .fifos p .prefix .below-in m h t (omega (arith, o .counting .numbers m (r .now (group p)) h))),
+    (λ l. o .each p .fifo-log .prefix .below-in m h t (omega (arith, o .counting .numbers m (r .now (group p)) h))),
   );
   dels = λ p m h t. (
     (λ f. let b = below 0 (λ x. r .now (delivered p x)) (r .now (group p)) f
-        (o .causals p .prefix .in-below) in
+        (o .each p .causal-log .prefix .in-below) in
         omega (arith, b, o .counting .numbers m (r .now (group p)) h)),
-    (λ l. o .causals p .prefix .below-in m h t (omega (arith, o .counting .numbers m (r .now (group p)) h))),
+    (λ l. o .each p .causal-log .prefix .below-in m h t (omega (arith, o .counting .numbers m (r .now (group p)) h))),
   );
 }
   where

@@ -1,20 +1,21 @@
 -- Precedence of messages, by the relation on events, is what the sets of Knowledge say: x precedes m exactly
--- when x is before m and is not m. By induction over the history: the multicasts that precede or are an event
--- of p are just the past of p. Assumes nothing.
+-- when x is before m and is not m. What a process knew of right after an event only grows along precedence,
+-- and right after a multicast it is what is before the message; that is one half. The other half is by
+-- induction over the history: what is known came by a chain of events. Assumes nothing.
 use mathlib.Core.Path.{_≡_, refl, sym, ap, _∙_, subst}
-use mathlib.Core.Bool.{true}
+use mathlib.Core.Bool.{Bool, true, false}
 use mathlib.Core.List.{List, [], _∷_}
 use mathlib.Core.Logic.{_⊎_, inl, inr, _≢_}
-use Prim.Native.Nat.{ℕ, suc, _≤_, _<_}
+use Prim.Native.Nat.{ℕ, suc, _<_}
 use native.Mathlib.Omega.{arith}
 use native.Mathlib.Nat.{not-suc-le-zero}
 use native.Mathlib.Decide.{ℕ-discrete}
 use lib.Dec.{eqb}
 use lib.ListN.{length}
 use borrow.Author.Tests.{eqb-true, eq-eqb, ne-eqb}
-use Rattle.base.specs.Tests.{clash, both, either, both-l, both-r, both-i, either-e, either-l, either-r}
+use Rattle.base.specs.Tests.{clash, pick, pick-yes, pick-no, eqb-refl, both, both-l, both-r, both-i, either-e, either-l}
 use Rattle.world.specs.History.{Event, sent, got, who, At, here, there, Precedes, same, carried, chain, Before, casts}
-use Rattle.order.specs.Knowledge.{Knowledge, learn, knowledge}
+use Rattle.order.specs.Knowledge.{Knowledge, learn, knowledge, past-grows, before-new, before-old}
 
 -- ---- a history of n messages: each is multicast once, in the order of the numbers
 abbrev pub Formed : ℕ → List Event → Type 0
@@ -40,14 +41,6 @@ at-low (there a) = let l = at-low a in omega arith
 -- an empty history has none
 pub no-event : {i : ℕ} {e : Event} → At [] i e → ⊥
 no-event a = not-suc-le-zero (at-low a)
-
--- below the newest place stands an older event
-at-older : {d e : Event} {es : List Event} {i : ℕ} → i < length es → At (d ∷ es) i e → At es i e
-at-older h a = elim (at-cases a) [ inl b ↦ absurd (omega (arith, b .0)) | inr b ↦ b ]
-
--- at the newest place the newest
-at-newest : {d e : Event} {es : List Event} {i : ℕ} → i ≡ length es → At (d ∷ es) i e → d ≡ e
-at-newest h a = elim (at-cases a) [ inl b ↦ b .1 | inr b ↦ absurd (omega (arith, at-low b)) ]
 
 -- one event at a place
 at-one : {es : List Event} {i j : ℕ} {d e : Event} → i ≡ j → At es i d → At es j e → d ≡ e
@@ -113,270 +106,226 @@ cast-there (sent r k ∷ es) {n} f m h = go (ℕ-discrete k m) (λ l. cast-there
         cast-at (length es) r (subst (λ (z : ℕ). At (sent r k ∷ es) (length es) (sent r z)) e (here refl))
     go (no d) ih = cast-up (ih (omega (arith, f .0)))
 
--- ---- precedence between places
+-- ---- along precedence, what is known grows
+-- what its process knows of right after the event at place i
+unfoldable known-at : List Event → ℕ → ℕ → Bool
+known-at [] i x = false
+known-at (e ∷ es) i x = pick (eqb i (length es)) (knowledge (e ∷ es) .past (who e) x) (known-at es i x)
+
+-- after the newest event, and after an older one
+at-newest : (e : Event) (es : List Event) (i x : ℕ) → i ≡ length es
+    → known-at (e ∷ es) i x ≡ knowledge (e ∷ es) .past (who e) x
+unfolding known-at
+at-newest e es i x h = pick-yes _ (known-at es i x) (eq-eqb i (length es) h)
+
+at-older : (e : Event) (es : List Event) (i x : ℕ) → i < length es → known-at (e ∷ es) i x ≡ known-at es i x
+unfolding known-at
+at-older e es i x h = pick-no _ (known-at es i x) (ne-eqb i (length es) (omega arith))
+
+-- what was known after an event of a process is in its past
+known-past : {es : List Event} {i : ℕ} {e : Event} (x : ℕ) → At es i e → known-at es i x ≡ true
+    → knowledge es .past (who e) x ≡ true
+unfolding knowledge
+known-past {es = e ∷ es} {i} x (here h) z = sym (at-newest e es i x h) ∙ z
+known-past {es = d ∷ es} {i} {e} x (there a) z =
+    past-grows d (knowledge es) (who e) x (known-past x a (sym (at-older d es i x (at-low a)) ∙ z))
+
+-- after its multicast, a message is known
+known-own : {es : List Event} {i p x : ℕ} → At es i (sent p x) → known-at es i x ≡ true
+unfolding knowledge
+known-own {es = e ∷ es} {i} {p} {x} (here h) =
+    at-newest e es i x h
+    ∙ either-l (both (eqb p p) (eqb x x)) (knowledge es .past p x)
+    (both-i (eqb p p) (eqb x x) (eqb-refl p) (eqb-refl x))
+known-own {es = d ∷ es} {i} {p} {x} (there a) = at-older d es i x (at-low a) ∙ known-own a
+
+-- and what is known then is before it
+known-before : (es : List Event) (n : ℕ) {i p m : ℕ} (x : ℕ) → Formed n es → At es i (sent p m)
+    → known-at es i x ≡ true → knowledge es .before m x ≡ true
+unfolding knowledge
+known-before [] n x f a z = absurd (no-event a)
+known-before (got r k ∷ es) n {i} x f a z =
+    let b = old-cast a in
+    known-before es n x f b (sym (at-older (got r k) es i x (at-low b)) ∙ z)
+known-before (sent r k ∷ es) n {i} {p} {m} x f a z = go (at-cases a) (λ b y. known-before es k x (f .1) b y)
+  where
+    go : Newest (sent r k) es i (sent p m) ⊎ At es i (sent p m)
+        → (At es i (sent p m) → known-at es i x ≡ true → knowledge es .before m x ≡ true)
+        → learn (sent r k) (knowledge es) .before m x ≡ true
+    go (inl b) ih =
+        let e : k ≡ m = cc (b .1) in
+        let y = sym (at-newest (sent r k) es i x (b .0)) ∙ z in
+        before-new (knowledge es) r k m x e
+        ∙ (simp (eqb-refl r) at y)
+    go (inr b) ih =
+        let l = cast-low es (f .1) b in
+        before-old (knowledge es) r k m x (omega arith) ∙ ih b (sym (at-older (sent r k) es i x (at-low b)) ∙ z)
+
+-- an event that precedes is older
 precedes-low : {es : List Event} {i j : ℕ} → Precedes es i j → i < j
 precedes-low (same d e h a b w) = h
 precedes-low (carried p q m h a b) = h
 precedes-low (chain a b) = omega (arith, precedes-low a, precedes-low b)
 
+-- of two events at the same process the later knows more
+known-same : (es : List Event) {i j : ℕ} {d e : Event} (x : ℕ) → i < j → At es i d → At es j e → who d ≡ who e
+    → known-at es i x ≡ true → known-at es j x ≡ true
+unfolding knowledge
+known-same [] x l a b w z = absurd (no-event a)
+known-same (h ∷ es) {i} {j} {d} {e} x l a b w z =
+    go (at-cases a) (at-cases b) (λ a′ b′ y. known-same es x l a′ b′ w y)
+  where
+    go : Newest h es i d ⊎ At es i d → Newest h es j e ⊎ At es j e
+        → (At es i d → At es j e → known-at es i x ≡ true → known-at es j x ≡ true) → known-at (h ∷ es) j x ≡ true
+    go (inl a′) b′ ih = absurd (omega (arith, a′ .0, at-low b))
+    go (inr a′) (inl b′) ih =
+        let y = known-past x a′ (sym (at-older h es i x (at-low a′)) ∙ z) in
+        at-newest h es j x (b′ .0)
+        ∙ past-grows h (knowledge es) (who h) x
+        (subst (λ (q : ℕ). knowledge es .past q x ≡ true) (w ∙ ap who (sym (b′ .1))) y)
+    go (inr a′) (inr b′) ih =
+        at-older h es j x (at-low b′) ∙ ih a′ b′ (sym (at-older h es i x (at-low a′)) ∙ z)
+
+-- a delivery knows what its message's multicast knew
+known-carried : (es : List Event) (n : ℕ) {i j p q m : ℕ} (x : ℕ) → Formed n es → i < j → At es i (sent p m)
+    → At es j (got q m) → known-at es i x ≡ true → known-at es j x ≡ true
+unfolding knowledge
+known-carried [] n x f l a b z = absurd (no-event a)
+known-carried (sent r k ∷ es) n {i} {j} {p} {q} {m} x f l a b z =
+    let b′ : At es j (got q m) = elim (at-cases b) [ inl c ↦ not-sent (sym (c .1)) | inr c ↦ c ] in
+    let h = at-low b′ in
+    let a′ : At es i (sent p m) = elim (at-cases a) [ inl c ↦ absurd (omega (arith, c .0)) | inr c ↦ c ] in
+    at-older (sent r k) es j x h
+    ∙ known-carried es k x (f .1) l a′ b′ (sym (at-older (sent r k) es i x (at-low a′)) ∙ z)
+known-carried (got r k ∷ es) n {i} {j} {p} {q} {m} x f l a b z =
+    go (at-cases b) (λ b′ y. known-carried es n x f l (old-cast a) b′ y)
+  where
+    y : known-at es i x ≡ true
+    y = sym (at-older (got r k) es i x (at-low (old-cast a))) ∙ z
+
+    go : Newest (got r k) es j (got q m) ⊎ At es j (got q m)
+        → (At es j (got q m) → known-at es i x ≡ true → known-at es j x ≡ true)
+        → known-at (got r k ∷ es) j x ≡ true
+    go (inl c) ih =
+        let e : m ≡ k = cc (c .1) in
+        at-newest (got r k) es j x (c .0)
+        ∙ either-l (both (eqb r r) (knowledge es .before k x)) (knowledge es .past r x)
+        (both-i (eqb r r) (knowledge es .before k x) (eqb-refl r)
+        (subst (λ (v : ℕ). knowledge es .before v x ≡ true) e (known-before es n x f (old-cast a) y)))
+    go (inr c) ih = at-older (got r k) es j x (at-low c) ∙ ih c y
+
+-- so along every chain
+known-grows : (es : List Event) (n : ℕ) {i j : ℕ} (x : ℕ) → Formed n es → Precedes es i j → known-at es i x ≡ true
+    → known-at es j x ≡ true
+known-grows es n x f (same d e l a b w) z = known-same es x l a b w z
+known-grows es n x f (carried p q m l a b) z = known-carried es n x f l a b z
+known-grows es n x f (chain a b) z = known-grows es n x f b (known-grows es n x f a z)
+
+-- ---- what is known came by a chain
 -- what precedes still does in a longer history
 precedes-up : {d : Event} {es : List Event} {i j : ℕ} → Precedes es i j → Precedes (d ∷ es) i j
 precedes-up (same d e h a b w) = same d e h (there a) (there b) w
 precedes-up (carried p q m h a b) = carried p q m h (there a) (there b)
 precedes-up (chain a b) = chain (precedes-up a) (precedes-up b)
 
--- and did, if the later event is an older one
-precedes-older : {d : Event} {es : List Event} {i j : ℕ} → j < length es → Precedes (d ∷ es) i j
-    → Precedes es i j
-precedes-older h (same d e l a b w) = same d e l (at-older (omega arith) a) (at-older h b) w
-precedes-older h (carried p q m l a b) = carried p q m l (at-older (omega arith) a) (at-older h b)
-precedes-older h (chain a b) =
-    let l = precedes-low b in
-    chain (precedes-older (omega arith) a) (precedes-older h b)
-
 -- the same place, or one that precedes
 abbrev Weak : List Event → ℕ → ℕ → Type 0
 Weak es i j = (i ≡ j) ⊎ Precedes es i j
 
--- the same, or the same place
+-- in a longer history
 weak-up : {d : Event} {es : List Event} {i j : ℕ} → Weak es i j → Weak (d ∷ es) i j
 weak-up (inl e) = inl e
 weak-up (inr p) = inr (precedes-up p)
-
--- the same of older events
-weak-older : {d : Event} {es : List Event} {i j : ℕ} → j < length es → Weak (d ∷ es) i j → Weak es i j
-weak-older h (inl e) = inl e
-weak-older h (inr p) = inr (precedes-older h p)
-
--- not later
-weak-le : {es : List Event} {i j : ℕ} → Weak es i j → i ≤ j
-weak-le (inl e) = omega arith
-weak-le (inr p) = omega (arith, precedes-low p)
 
 -- followed by an edge
 weak-then : {es : List Event} {i j k : ℕ} → Weak es i j → Precedes es j k → Precedes es i k
 weak-then {es} {i} {j} {k} (inl e) p = subst (λ (z : ℕ). Precedes es z k) (sym e) p
 weak-then (inr q) p = chain q p
 
--- after an edge
-then-weak : {es : List Event} {i j k : ℕ} → Precedes es i j → Weak es j k → Weak es i k
-then-weak {es} {i} {j} {k} p (inl e) = inr (subst (Precedes es i) e p)
-then-weak p (inr q) = inr (chain p q)
-
--- the last edge of a chain to the newest event
-data Into (es : List Event) (e : Event) (i : ℕ) : Type 0 where
-  by-process : (k : ℕ) (d : Event) → At es k d → who d ≡ who e → Weak es i k → Into es e i
-  by-message : (k p q m : ℕ) → At es k (sent p m) → e ≡ got q m → Weak es i k → Into es e i
-
--- every chain to it has one
-into : {es : List Event} {e : Event} {i j : ℕ} → j ≡ length es → Precedes (e ∷ es) i j → Into es e i
-into h (same d f l a b w) =
-    by-process _ d (at-older (omega arith) a) (w ∙ ap who (sym (at-newest h b))) (inl refl)
-into h (carried p q m l a b) = by-message _ p q m (at-older (omega arith) a) (at-newest h b) (inl refl)
-into {es} {e} {i} {j} h (chain {j = k} a b) = go (into h b)
-  where
-    go : Into es e k → Into es e i
-    go (by-process k′ d ad w x) =
-        by-process k′ d ad w (then-weak (precedes-older (omega (arith, at-low ad, weak-le x)) a) x)
-    go (by-message k′ p q m ad w x) =
-        by-message k′ p q m ad w (then-weak (precedes-older (omega (arith, at-low ad, weak-le x)) a) x)
-
--- ---- what the sets mean
--- place i is, or precedes, an event of p
-data Reach (es : List Event) (i p : ℕ) : Type 0 where
-  reach : (j : ℕ) (e : Event) → At es j e → who e ≡ p → Weak es i j → Reach es i p
-
--- p's past has x; x is, or precedes, m
+-- the multicast of x is, or precedes, an event of p
 data Knows (es : List Event) (p x : ℕ) : Type 0 where
-  knows : (i r : ℕ) → At es i (sent r x) → Reach es i p → Knows es p x
+  knows : (i r j : ℕ) (e : Event) → At es i (sent r x) → At es j e → who e ≡ p → Weak es i j → Knows es p x
 
 -- x is m, or precedes it
 data Linked (es : List Event) (m x : ℕ) : Type 0 where
   linked : (i r j q : ℕ) → At es i (sent r x) → At es j (sent q m) → Weak es i j → Linked es m x
 
--- that stays so
+-- in a longer history
+knows-up : {d : Event} {es : List Event} {p x : ℕ} → Knows es p x → Knows (d ∷ es) p x
+knows-up (knows i r j e a b w z) = knows i r j e (there a) (there b) w (weak-up z)
+
 linked-up : {d : Event} {es : List Event} {m x : ℕ} → Linked es m x → Linked (d ∷ es) m x
 linked-up (linked i r j q a b w) = linked i r j q (there a) (there b) (weak-up w)
 
--- and so does this
-knows-up : {d : Event} {es : List Event} {p x : ℕ} → Knows es p x → Knows (d ∷ es) p x
-knows-up (knows i r a (reach j e b w x)) = knows i r (there a) (reach j e (there b) w (weak-up x))
-
--- the sets say just that
-record Exact (es : List Event) (k : Knowledge) : Type 0 where
-  pub past-in : (i r p x : ℕ) → At es i (sent r x) → Reach es i p → k .past p x ≡ true
+-- the sets say no more than that
+record Founded (es : List Event) (k : Knowledge) : Type 0 where
   pub past-out : (p x : ℕ) → k .past p x ≡ true → Knows es p x
-  pub before-in : (i r j q m x : ℕ) → At es i (sent r x) → At es j (sent q m) → Weak es i j
-      → k .before m x ≡ true
   pub before-out : (m x : ℕ) → k .before m x ≡ true → Linked es m x
 
--- ---- a delivery
-module _ {es : List Event} {k : Knowledge} (p m : ℕ) (c : Exact es k) where
-  -- p knows x after it
-  abbrev GotKnows : ℕ → ℕ → Type 0
-  GotKnows q x = learn (got p m) k .past q x ≡ true
-
-  -- what was known is
-  got-old : (q x : ℕ) → k .past q x ≡ true → GotKnows q x
-  got-old q x e = either-r (both (eqb p q) (k .before m x)) (k .past q x) e
-
-  -- what is before m is known to p
-  got-new : (q x : ℕ) → p ≡ q → k .before m x ≡ true → GotKnows q x
-  got-new q x e b =
-      either-l (both (eqb p q) (k .before m x)) (k .past q x)
-      (both-i (eqb p q) (k .before m x) (eq-eqb p q e) b)
-
-  -- what reaches an event of q is in its past
-  got-past-in : (i r q x : ℕ) → At es i (sent r x) → Reach (got p m ∷ es) i q → GotKnows q x
-  got-past-in i r q x a (reach j e b w z) = go (at-cases b) z
-    where
-      last-edge : p ≡ q → Into es (got p m) i → GotKnows q x
-      last-edge v (by-process l d ad wd y) = got-old q x (c .past-in i r q x a (reach l d ad (wd ∙ v) y))
-      last-edge v (by-message l r′ p′ n ad ed y) =
-          let en : m ≡ n = cc in
-          got-new q x v (subst (λ (t : ℕ). k .before t x ≡ true) (sym en) (c .before-in i r l r′ n x a ad y))
-
-      go : Newest (got p m) es j e ⊎ At es j e → Weak (got p m ∷ es) i j → GotKnows q x
-      go (inr b′) y = got-old q x (c .past-in i r q x a (reach j e b′ w (weak-older (at-low b′) y)))
-      go (inl b′) (inl y) = absurd (omega (arith, at-low a, b′ .0))
-      go (inl b′) (inr y) = last-edge (ap who (b′ .1) ∙ w) (into (b′ .0) y)
-
-  -- what is before m reaches the delivery
-  got-past-out : (q x : ℕ) → p ≡ q → Linked es m x → Knows (got p m ∷ es) q x
-  got-past-out q x e (linked i r j s a b w) =
-      knows i r (there a) (reach (length es) (got p m) (here refl) e
-      (inr (weak-then (weak-up w) (carried s p m (at-low b) (there b) (here refl)))))
-
-  -- the sets stay exact
-  exact-got : Exact (got p m ∷ es) (learn (got p m) k)
-  exact-got = record {
-    past-in = λ i r q x a z. got-past-in i r q x (old-cast a) z;
-    past-out = λ q x e. elim (either-e (both (eqb p q) (k .before m x)) (k .past q x) e) [
-      | inl a ↦ got-past-out q x (eqb-true p q (both-l (eqb p q) (k .before m x) a))
-          (c .before-out m x (both-r (eqb p q) (k .before m x) a))
-      | inr a ↦ knows-up (c .past-out q x a)
-    ];
-    before-in = λ i r j q n x a b w.
-        let b′ = old-cast b in
-        c .before-in i r j q n x (old-cast a) b′ (weak-older (at-low b′) w);
-    before-out = λ n x e. linked-up (c .before-out n x e);
-  }
-
--- ---- a multicast
-module _ {es : List Event} {k : Knowledge} (p m : ℕ) (f : Formed m es) (c : Exact es k) where
-  abbrev SentKnows : ℕ → ℕ → Type 0
-  SentKnows q x = learn (sent p m) k .past q x ≡ true
-
-  -- what was known is
-  sent-old : (q x : ℕ) → k .past q x ≡ true → SentKnows q x
-  sent-old q x e = either-r (both (eqb p q) (eqb m x)) (k .past q x) e
-
-  -- the newest event, at a place
-  now : (x : ℕ) → m ≡ x → At (sent p m ∷ es) (length es) (sent p x)
-  now x e = subst (λ (z : ℕ). At (sent p m ∷ es) (length es) (sent p z)) e (here refl)
-
-  -- what reaches the new event reaches p's past
-  reaches : (i r q x : ℕ) → At es i (sent r x) → p ≡ q → Into es (sent p m) i → k .past q x ≡ true
-  reaches i r q x a v (by-process l d ad wd y) = c .past-in i r q x a (reach l d ad (wd ∙ v) y)
-  reaches i r q x a v (by-message l r′ p′ n ad ed y) = not-sent (sym ed)
-
-  -- what reaches an event of q is in its past
-  sent-past-in : (i r q x : ℕ) → Newest (sent p m) es i (sent r x) ⊎ At es i (sent r x)
-      → Reach (sent p m ∷ es) i q
-      → SentKnows q x
-  sent-past-in i r q x a (reach j e b w z) = go a (at-cases b) z
-    where
-      go : Newest (sent p m) es i (sent r x) ⊎ At es i (sent r x) → Newest (sent p m) es j e ⊎ At es j e
-          → Weak (sent p m ∷ es) i j → SentKnows q x
-      go (inl a′) (inl b′) y =
-          let em : m ≡ x = cc (a′ .1) in
-          either-l (both (eqb p q) (eqb m x)) (k .past q x)
-          (both-i (eqb p q) (eqb m x) (eq-eqb p q (ap who (b′ .1) ∙ w)) (eq-eqb m x em))
-      go (inl a′) (inr b′) y = absurd (omega (arith, at-low b′, a′ .0, weak-le y))
-      go (inr a′) (inl b′) (inl y) = absurd (omega (arith, at-low a′, b′ .0))
-      go (inr a′) (inl b′) (inr y) = sent-old q x (reaches i r q x a′ (ap who (b′ .1) ∙ w) (into (b′ .0) y))
-      go (inr a′) (inr b′) y =
-          sent-old q x (c .past-in i r q x a′ (reach j e b′ w (weak-older (at-low b′) y)))
-
-  -- x is before n after it
-  abbrev SentLinks : ℕ → ℕ → Type 0
-  SentLinks n x = learn (sent p m) k .before n x ≡ true
-
-  -- before the new message is the past of p
-  new-is : (n x : ℕ) → m ≡ n → learn (sent p m) k .before n x ≡ either (eqb m x) (k .past p x)
-  new-is n x e = rw (eq-eqb m n e)
-
-  -- before an older one what was
-  old-is : (n x : ℕ) → m ≢ n → learn (sent p m) k .before n x ≡ k .before n x
-  old-is n x e = rw (ne-eqb m n e)
-
-  -- what precedes a multicast is before its message
-  sent-before-in : (i r j q n x : ℕ) → Newest (sent p m) es i (sent r x) ⊎ At es i (sent r x)
-      → Newest (sent p m) es j (sent q n) ⊎ At es j (sent q n) → Weak (sent p m ∷ es) i j → SentLinks n x
-  sent-before-in i r j q n x (inl a) (inl b) w =
-      let en : m ≡ n = cc (b .1) in
-      let ex : m ≡ x = cc (a .1) in
-      new-is n x en ∙ either-l (eqb m x) (k .past p x) (eq-eqb m x ex)
-  sent-before-in i r j q n x (inl a) (inr b) w = absurd (omega (arith, at-low b, a .0, weak-le w))
-  sent-before-in i r j q n x (inr a) (inl b) (inl w) = absurd (omega (arith, at-low a, b .0))
-  sent-before-in i r j q n x (inr a) (inl b) (inr w) =
-      let en : m ≡ n = cc (b .1) in
-      new-is n x en ∙ either-r (eqb m x) (k .past p x) (reaches i r p x a refl (into (b .0) w))
-  sent-before-in i r j q n x (inr a) (inr b) w =
-      let l = cast-low es f b in
-      old-is n x (omega arith) ∙ c .before-in i r j q n x a b (weak-older (at-low b) w)
-
-  -- what p knows precedes the new message
-  sent-links : (n x : ℕ) → m ≡ n → Knows es p x → Linked (sent p m ∷ es) n x
-  sent-links n x e (knows i r a (reach j d b v w)) =
-      linked i r (length es) p (there a) (now n e)
-      (inr (weak-then (weak-up w) (same d _ (at-low b) (there b) (here refl) v)))
-
-  -- what is before a message precedes its multicast
-  sent-before-out : (n x : ℕ) → SentLinks n x → Dec (m ≡ n) → Linked (sent p m ∷ es) n x
-  sent-before-out n x e (no d) = linked-up (c .before-out n x (sym (old-is n x d) ∙ e))
-  sent-before-out n x e (yes d) = elim (either-e (eqb m x) (k .past p x) (sym (new-is n x d) ∙ e)) [
-    | inl a ↦ linked (length es) p (length es) p (now x (eqb-true m x a)) (now n d) (inl refl)
-    | inr a ↦ sent-links n x d (c .past-out p x a)
-  ]
-
-  -- the sets stay exact
-  exact-sent : Exact (sent p m ∷ es) (learn (sent p m) k)
-  exact-sent = record {
-    past-in = λ i r q x a z. sent-past-in i r q x (at-cases a) z;
-    past-out = λ q x e. elim (either-e (both (eqb p q) (eqb m x)) (k .past q x) e) [
-      | inl a ↦ knows (length es) p (now x (eqb-true m x (both-r (eqb p q) (eqb m x) a)))
-          (reach (length es) (sent p m) (here refl) (eqb-true p q (both-l (eqb p q) (eqb m x) a)) (inl refl))
-      | inr a ↦ knows-up (c .past-out q x a)
-    ];
-    before-in = λ i r j q n x a b w. sent-before-in i r j q n x (at-cases a) (at-cases b) w;
-    before-out = λ n x e. sent-before-out n x e (ℕ-discrete m n);
-  }
-
--- the sets of every history are exact
-exact : (es : List Event) (n : ℕ) → Formed n es → Exact es (knowledge es)
-unfolding knowledge
-exact [] n f = record {
-  past-in = λ i r p x a z. absurd (not-suc-le-zero (at-low a));
-  past-out = λ p x e. clash e refl;
-  before-in = λ i r j q m x a b w. absurd (not-suc-le-zero (at-low a));
-  before-out = λ m x e. clash e refl;
+-- after a delivery: what is before its message reaches it
+founded-got : {es : List Event} {k : Knowledge} (p m : ℕ) → Founded es k
+    → Founded (got p m ∷ es) (learn (got p m) k)
+founded-got {es} {k} p m c = record {
+  past-out = λ q x e. elim (either-e (both (eqb p q) (k .before m x)) (k .past q x) e) [
+    | inl a ↦ reaches q x (eqb-true p q (both-l (eqb p q) (k .before m x) a))
+        (c .before-out m x (both-r (eqb p q) (k .before m x) a))
+    | inr a ↦ knows-up (c .past-out q x a)
+  ];
+  before-out = λ n x e. linked-up (c .before-out n x e);
 }
-exact (sent p m ∷ es) n f = exact-sent p m (f .1) (exact es m (f .1))
-exact (got p m ∷ es) n f = exact-got p m (exact es n f)
+  where
+    reaches : (q x : ℕ) → p ≡ q → Linked es m x → Knows (got p m ∷ es) q x
+    reaches q x e (linked i r j s a b w) =
+        knows i r (length es) (got p m) (there a) (here refl) e
+        (inr (weak-then (weak-up w) (carried s p m (at-low b) (there b) (here refl))))
+
+-- after a multicast: what its sender knows precedes it
+founded-sent : {es : List Event} {k : Knowledge} (p m : ℕ) → Founded es k
+    → Founded (sent p m ∷ es) (learn (sent p m) k)
+founded-sent {es} {k} p m c = record {
+  past-out = λ q x e. elim (either-e (both (eqb p q) (eqb m x)) (k .past q x) e) [
+    | inl a ↦ knows (length es) p (length es) (sent p m) (now x (eqb-true m x (both-r (eqb p q) (eqb m x) a)))
+        (here refl) (eqb-true p q (both-l (eqb p q) (eqb m x) a)) (inl refl)
+    | inr a ↦ knows-up (c .past-out q x a)
+  ];
+  before-out = λ n x e. links n x e (ℕ-discrete m n);
+}
+  where
+    -- the newest event
+    now : (x : ℕ) → m ≡ x → At (sent p m ∷ es) (length es) (sent p x)
+    now x e = subst (λ (z : ℕ). At (sent p m ∷ es) (length es) (sent p z)) e (here refl)
+
+    follows : (n x : ℕ) → m ≡ n → Knows es p x → Linked (sent p m ∷ es) n x
+    follows n x e (knows i r j d a b v w) =
+        linked i r (length es) p (there a) (now n e)
+        (inr (weak-then (weak-up w) (same d _ (at-low b) (there b) (here refl) v)))
+
+    links : (n x : ℕ) → learn (sent p m) k .before n x ≡ true → Dec (m ≡ n) → Linked (sent p m ∷ es) n x
+    links n x e (no d) = linked-up (c .before-out n x (sym (before-old k p m n x d) ∙ e))
+    links n x e (yes d) = elim (either-e (eqb m x) (k .past p x) (sym (before-new k p m n x d) ∙ e)) [
+      | inl a ↦ linked (length es) p (length es) p (now x (eqb-true m x a)) (now n d) (inl refl)
+      | inr a ↦ follows n x d (c .past-out p x a)
+    ]
+
+-- so of every history
+founded : (es : List Event) → Founded es (knowledge es)
+unfolding knowledge
+founded [] = record { past-out = λ p x e. clash e refl; before-out = λ m x e. clash e refl }
+founded (sent p m ∷ es) = founded-sent p m (founded es)
+founded (got p m ∷ es) = founded-got p m (founded es)
 
 -- ---- x precedes m exactly when it is before m, and not m
 module _ (es : List Event) (n : ℕ) (f : Formed n es) (x m : ℕ) where
   pub precedes-before : Before es x m → (knowledge es .before m x ≡ true) × (x ≢ m)
   precedes-before (casts {i} {j} p q a b z) = (
-    exact es n f .before-in i p j q m x a b (inr z),
+    known-before es n x f b (known-grows es n x f z (known-own a)),
     λ e. (let l = cast-once es n f a (subst (λ (y : ℕ). At es j (sent q y)) (sym e) b) in
         absurd (omega (arith, precedes-low z))),
   )
 
   -- and the other way round
   pub before-precedes : knowledge es .before m x ≡ true → x ≢ m → Before es x m
-  before-precedes e ne = go (exact es n f .before-out m x e)
+  before-precedes e ne = go (founded es .before-out m x e)
     where
       go : Linked es m x → Before es x m
       go (linked i r j q a b (inr w)) = casts r q a b w

@@ -1,41 +1,36 @@
 -- What holds of every run: its state is sound, its counters and logs mean what Meaning says of its history,
 -- nothing is left to deliver causally, and each message is multicast once in the history, in the order of the
--- numbers. A step at a process changes that process's own record in its cascade and no other; a multicast
--- adds a message, which no process has delivered. Assumes nothing.
+-- numbers. A step at a process changes that process's own record in its cascade and no other. Assumes
+-- nothing.
 use mathlib.Core.Path.{_≡_, refl, sym, ap, _∙_, subst}
-use mathlib.Core.Bool.{Bool, true, false}
+use mathlib.Core.Bool.{true}
 use mathlib.Core.List.{List, [], _∷_}
 use mathlib.Core.Logic.{_⊎_, inl, inr, _≢_}
-use Prim.Native.Nat.{ℕ, zero, suc, _+_, _-_, _<_}
+use Prim.Native.Nat.{ℕ, zero, suc, _-_, _<_}
 use native.Mathlib.Omega.{arith}
-use native.Mathlib.Numerals.{add-one}
 use native.Mathlib.Nat.{not-suc-le-zero}
 use native.Mathlib.Decide.{ℕ-discrete}
-use lib.Dec.{eqb, ltb}
-use borrow.Author.Tests.{ne-eqb}
-use Rattle.base.specs.Tests.{pick, pick-yes, pick-no, pick-le, both, eqb-refl}
+use lib.Dec.{ltb}
+use Rattle.base.specs.Tests.{pick-le, both}
 use Rattle.base.specs.Count.{tally}
-use Rattle.base.specs.Bits.{bit}
-use Rattle.world.specs.World.{size, count, trust, counter, sequence, causal-length, causal, sender, mask, stamp, number, up, State, put}
-use Rattle.world.specs.Layout.{put-same, put-other}
+use Rattle.world.specs.World.{size, count, trust, causal-length, causal, sender, up, State, put}
 use Rattle.world.specs.Sound.{Sound}
 use Rattle.world.specs.Setup.{byte, fresh, setup-group, setup-refusal, made}
-use Rattle.world.specs.Machine.{with-tables, cascade, raised, stamped, numbered, posted, multicast, leave, arrival, trust-set, crash}
-use Rattle.world.specs.Steps.{Step, multicasts, arrives, loses, trusts, crashes, malformed, read, accepted, step}
-use Rattle.world.specs.StepLaws.{accepted-multicast, accepted-arrival, accepted-trust, lowest-moves}
-use Rattle.world.specs.Settle.{lowest}
-use Rattle.world.specs.SettleLaws.{settle-keeps}
-use Rattle.world.specs.History.{Event, sent, At, deliveries, grown, gained, on-states, Run, Item, given, settling, taken, tick, settles, act, run, started}
+use Rattle.world.specs.Machine.{cascade, multicast, leave, arrival, trust-set, crash}
+use Rattle.world.specs.Steps.{Step, multicasts, arrives, loses, trusts, crashes, malformed, accepted, step}
+use Rattle.world.specs.StepLaws.{accepted-multicast, accepted-arrival, accepted-trust}
+use Rattle.world.specs.History.{Event, sent, At, deliveries, grown, gained, on-states, Run, Item, taken, act, run, started}
 use Rattle.keeps.specs.Keeps.{fresh-sound, step-sound}
 use Rattle.effects.specs.Views.{Messages, messages, Process, ground, Ground, Still}
 use Rattle.effects.specs.Views.{process as own}
 use Rattle.effects.specs.Arrival.{arrived, arrived-process, arrived-ground}
-use Rattle.effects.specs.Holding.{HeldTo, arrived-held, trusted-held, chosen-accepted}
+use Rattle.effects.specs.Runs.{act-keeps, run-keeps}
+use Rattle.effects.specs.Holding.{HeldTo, arrived-held, trusted-held}
 use Rattle.order.specs.Knowledge.{knowledge, closed-fresh}
 use Rattle.order.specs.Precedence.{Formed, Newest, at-cases, no-event, old-cast, cast-low}
-use Rattle.order.specs.Counters.{own-all, OneMore, counting-sent, counter-sent, all-more}
-use Rattle.order.specs.Logs.{fifo-log-sent, causal-log-sent, quiet-sent}
-use Rattle.order.specs.Cascade.{MeaningOf, QuietOf, meaning-same, quiet-same, Cascading, cascade-end}
+use Rattle.order.specs.Counters.{OneMore}
+use Rattle.order.specs.Multicast.{one-more, meaning-multicast, quiet-multicast, multicast-logs, multicast-count}
+use Rattle.order.specs.Cascade.{MeaningOf, QuietOf, meaning-same, quiet-same, Cascading, cascading-all}
 
 -- ---- the invariant of a run
 -- a state and its history
@@ -129,27 +124,29 @@ fresh-meaning n groups = record {
     stamps = λ m g q h. absurd (not-suc-le-zero h);
     numbers = λ m g h. absurd (not-suc-le-zero h);
   };
-  counters = λ p g q. refl;
-  sequences = λ p g. refl;
-  fifos = λ p. record {
-    old = λ i h. absurd (not-suc-le-zero h);
-    to-group = λ i h. absurd (not-suc-le-zero h);
-    once = λ i j l h. absurd (not-suc-le-zero h);
-    order = λ i x h. absurd (not-suc-le-zero h);
-    prefix = record {
-      in-below = λ i h. absurd (not-suc-le-zero h);
-      below-in = λ m h. absurd (not-suc-le-zero h);
-      most = λ q. pick-le (both (ltb p n) (ltb q n)) (omega arith) (omega arith);
+  each = λ p. record {
+    counters = λ g q. refl;
+    sequences = λ g. refl;
+    fifo-log = record {
+      old = λ i h. absurd (not-suc-le-zero h);
+      to-group = λ i h. absurd (not-suc-le-zero h);
+      once = λ i j l h. absurd (not-suc-le-zero h);
+      order = λ i x h. absurd (not-suc-le-zero h);
+      prefix = record {
+        in-below = λ i h. absurd (not-suc-le-zero h);
+        below-in = λ m h. absurd (not-suc-le-zero h);
+        most = λ q. pick-le (both (ltb p n) (ltb q n)) (omega arith) (omega arith);
+      };
     };
-  };
-  causals = λ p. record {
-    in-fifo = λ i h. absurd (not-suc-le-zero h);
-    once = λ i j l h. absurd (not-suc-le-zero h);
-    order = λ i x h. absurd (not-suc-le-zero h);
-    prefix = record {
-      in-below = λ i h. absurd (not-suc-le-zero h);
-      below-in = λ m h. absurd (not-suc-le-zero h);
-      most = λ q. omega arith;
+    causal-log = record {
+      in-fifo = λ i h. absurd (not-suc-le-zero h);
+      once = λ i j l h. absurd (not-suc-le-zero h);
+      order = λ i x h. absurd (not-suc-le-zero h);
+      prefix = record {
+        in-below = λ i h. absurd (not-suc-le-zero h);
+        below-in = λ m h. absurd (not-suc-le-zero h);
+        most = λ q. omega arith;
+      };
     };
   };
 }
@@ -165,107 +162,26 @@ whole-started setup ok = record {
   senders = λ i q m a. absurd (no-event a);
 }
 
--- ---- a multicast
-module _ (s : State) (es : List Event) (p groups : ℕ) (o : MeaningOf s es) where
-  -- one more, as the counters count
-  raised-suc : (b : Bool) (v : ℕ) → pick b (v + 1) v ≡ pick b (suc v) v
-  raised-suc b v = ap (λ (z : ℕ). pick b z v) (add-one v)
+-- ---- a step that adds no message
+whole-after : (s t : State) (es : List Event) → messages t ≡ messages s → Sound t
+    → MeaningOf t (gained (s size) s t es) → QuietOf t
+    → Whole (with-history s es) → Whole (with-history t (gained (s size) s t es))
+whole-after s t es e d o q w = record {
+  sound = d;
+  meaning = o;
+  quiet = q;
+  formed = subst (λ (n : ℕ). Formed n (gained (s size) s t es)) (sym (ap (λ (v : Messages). v .total) e))
+      (formed-gained (s count) (s size) s t es (w .formed));
+  senders = λ i q m a. ap (λ (v : Messages). v .sender m) e
+      ∙ w .senders i q m (at-gained (s size) s t es a);
+}
 
-  -- the messages after it
-  pub one-more : OneMore (messages s) (knowledge es) p groups (messages (multicast s p groups))
-  unfolding multicast posted numbered stamped raised put with-tables
-  one-more = record {
-    total = refl;
-    old-sender = λ x h. put-other s (sender (s count)) (sender x) p (λ e. apart x h (cc));
-    old-mask = λ x h. put-other s (mask (s count)) (mask x) groups (λ e. apart x h (cc));
-    old-stamp = λ x g q h. pick-no _ (s (stamp x g q)) (ne-eqb (s count) x (apart x h));
-    old-number = λ x g h. pick-no _ (s (number x g)) (ne-eqb (s count) x (apart x h));
-    new-sender = put-same s (sender (s count)) (sender (s count)) p refl;
-    new-mask = put-same s (mask (s count)) (mask (s count)) groups refl;
-    new-stamp = λ g q. stamp-is g q ∙ raised-suc (both (eqb p q) (bit groups g)) (s (counter p g q))
-        ∙ ap (λ (v : ℕ). pick (both (eqb p q) (bit groups g)) (suc v) v) (o .counters p g q);
-    new-number = λ g. number-is g
-        ∙ ap (λ (v : ℕ). pick (bit groups g) (v + 1) v)
-        (o .sequences p g ∙ sym (own-all (o .counting) p g) ∙ sym (o .counters p g p))
-        ∙ sym
-        (stamp-is g p
-        ∙ ap (λ (b : Bool). pick (both b (bit groups g)) (s (counter p g p) + 1) (s (counter p g p)))
-        (eqb-refl p));
-  }
-    where
-      apart : (x : ℕ) → x < s count → s count ≢ x
-      apart x h = omega arith
-
-      stamp-is : (g q : ℕ) → multicast s p groups (stamp (s count) g q)
-          ≡ pick (both (eqb p q) (bit groups g)) (s (counter p g q) + 1) (s (counter p g q))
-      stamp-is g q =
-          pick-yes
-          (pick (both (both (eqb p p) (eqb p q)) (bit groups g)) (s (counter p g q) + 1)
-          (s (counter p g q)))
-          (s (stamp (s count) g q)) (eqb-refl (s count))
-          ∙ ap
-          (λ (b : Bool). pick (both (both b (eqb p q)) (bit groups g)) (s (counter p g q) + 1)
-          (s (counter p g q))) (eqb-refl p)
-
-      number-is : (g : ℕ) → multicast s p groups (number (s count) g)
-          ≡ pick (bit groups g) (s (sequence p g) + 1) (s (sequence p g))
-      number-is g =
-          pick-yes (pick (both (eqb p p) (bit groups g)) (s (sequence p g) + 1) (s (sequence p g)))
-          (s (number (s count) g))
-          (eqb-refl (s count))
-          ∙ ap (λ (b : Bool). pick (both b (bit groups g)) (s (sequence p g) + 1) (s (sequence p g)))
-          (eqb-refl p)
-
-  -- tests grouped otherwise
-  grouped : (a b c : Bool) → both (both a b) c ≡ both a (both b c)
-  grouped true b c = refl
-  grouped false b c = refl
-
-  -- the counters and logs mean what they should
-  meaning-multicast : p < s size → MeaningOf (multicast s p groups) (sent p (s count) ∷ es)
-  unfolding multicast posted numbered stamped raised put with-tables knowledge
-  meaning-multicast hp = record {
-    counting = counting-sent (o .counting) one-more hp;
-    counters = λ r g q.
-        raised-suc (both (both (eqb p r) (eqb p q)) (bit groups g)) (s (counter r g q))
-        ∙ ap (λ (b : Bool). pick b (suc (s (counter r g q))) (s (counter r g q)))
-        (grouped (eqb p r) (eqb p q) (bit groups g))
-        ∙ counter-sent (o .counting) one-more r g q (s (counter r g q)) (o .counters r g q);
-    sequences = λ r g.
-        raised-suc (both (eqb p r) (bit groups g)) (s (sequence r g))
-        ∙ ap (λ (v : ℕ). pick (both (eqb p r) (bit groups g)) (suc v) v) (o .sequences r g)
-        ∙ sym (all-more (o .counting) one-more r g);
-    fifos = λ r. fifo-log-sent (o .counting) one-more (own s r) (o .fifos r);
-    causals =
-        λ r. causal-log-sent (o .counting) one-more (own s r) (o .fifos r)
-        (own (multicast s p groups) r .counter)
-        (own (multicast s p groups) r .sequence) (o .causals r);
-  }
-
-  -- and nothing is left to deliver
-  quiet-multicast : QuietOf s → QuietOf (multicast s p groups)
-  unfolding multicast posted numbered stamped raised put with-tables
-  quiet-multicast z r =
-      quiet-sent (o .counting) one-more (own s r) (o .fifos r) (own (multicast s p groups) r .counter)
-      (own (multicast s p groups) r .sequence) (z r)
-
--- no causal log grows
-multicast-logs : (s : State) (p groups r : ℕ) → multicast s p groups (causal-length r) ≡ s (causal-length r)
-unfolding multicast posted numbered stamped raised put with-tables
-multicast-logs s p groups r = refl
-
--- there is one message more
-pub multicast-count : (s : State) (p groups : ℕ) → multicast s p groups count ≡ suc (s count)
-unfolding multicast posted numbered stamped raised put with-tables
-multicast-count s p groups = add-one (s count)
-
--- ---- a step at p that ends with its cascade; t is the state in which the cascade begins
-module _ (s t : State) (es : List Event) (p : ℕ) (hp : p < s size) (e : messages t ≡ messages s)
-    (z : t size ≡ s size)
+-- a step at p up to its cascade, or a step without one: t is the state then
+module _ (s t : State) (es : List Event) (e : messages t ≡ messages s) (z : t size ≡ s size)
     (f : (r : ℕ) → own t r ≡ own s r) where
   -- the cascade begins
-  pub cascade-begins : MeaningOf s es → QuietOf s → Cascading p (s (causal-length p)) es t t
-  cascade-begins o q = record {
+  pub cascade-begins : (p : ℕ) → MeaningOf s es → QuietOf s → Cascading p (s (causal-length p)) es t t
+  cascade-begins p o q = record {
     meaning = subst (MeaningOf t) (sym (grown-none p s t es (ap (λ (r : Process). r .causal-length) (f p))))
         (meaning-same s t e z f es o);
     quiet = quiet-same s t e z f q;
@@ -275,56 +191,21 @@ module _ (s t : State) (es : List Event) (p : ℕ) (hp : p < s size) (e : messag
   }
 
   -- and ends
-  whole-cascade : HeldTo t p → Sound (cascade t p) → Whole (with-history s es)
+  whole-cascade : (p : ℕ) → p < s size → HeldTo t p → Sound (cascade t p) → Whole (with-history s es)
       → Whole (with-history (cascade t p) (gained (s size) s (cascade t p) es))
-  whole-cascade h d w =
-      let c =
-      cascade-end p (s (causal-length p)) es t h (cascade-begins (w .meaning) (w .quiet)) .cascading in
+  whole-cascade p hp h d w =
+      let c = cascading-all p (s (causal-length p)) es t h (cascade-begins p (w .meaning) (w .quiet)) in
       let only = gained-one (s size) p s (cascade t p) es hp
       (λ r n. ap (λ (x : Process). x .causal-length) (c .there r n ∙ f r)) in
-      let total : cascade t p count ≡ s count =
-      ap (λ (v : Still). v .ground .messages .total) (c .same) ∙ ap (λ (v : Messages). v .total) e in
-      record {
-        sound = d;
-        meaning = subst (MeaningOf (cascade t p)) (sym only) (c .meaning);
-        quiet = c .quiet;
-        formed = subst (λ (n : ℕ). Formed n (gained (s size) s (cascade t p) es)) (sym total)
-            (formed-gained (s count) (s size) s (cascade t p) es (w .formed));
-        senders = λ i q m a.
-            ap (λ (v : Still). v .ground .messages .sender m) (c .same) ∙ ap (λ (v : Messages). v .sender m) e
-            ∙ w .senders i q m (at-gained (s size) s (cascade t p) es a);
-      }
+      whole-after s (cascade t p) es (ap (λ (v : Still). v .ground .messages) (c .same) ∙ e) d
+      (subst (MeaningOf (cascade t p)) (sym only) (c .meaning)) (c .quiet) w
 
--- a step without deliveries that changes no record and no message
-whole-plain : (s t : State) (es : List Event) → messages t ≡ messages s → t size ≡ s size
-    → ((r : ℕ) → own t r ≡ own s r)
-    → Sound t → Whole (with-history s es) → Whole (with-history t (gained (s size) s t es))
-whole-plain s t es e z f d w =
-    let none = gained-none (s size) s t es (λ r _. ap (λ (x : Process). x .causal-length) (f r)) in
-    record {
-      sound = d;
-      meaning = subst (MeaningOf t) (sym none) (meaning-same s t e z f es (w .meaning));
-      quiet = quiet-same s t e z f (w .quiet);
-      formed = subst (λ (n : ℕ). Formed n (gained (s size) s t es)) (sym (ap (λ (v : Messages). v .total) e))
-          (formed-gained (s count) (s size) s t es (w .formed));
-      senders = λ i q m a. ap (λ (v : Messages). v .sender m) e
-          ∙ w .senders i q m (at-gained (s size) s t es a);
-    }
-
--- ---- every accepted step
-trusted-own : (s : State) (p set r : ℕ) → own (put s (trust p) set) r ≡ own s r
-unfolding put
-trusted-own s p set r = refl
-
--- no message changes
-trusted-messages : (s : State) (p set : ℕ) → messages (put s (trust p) set) ≡ messages s
-unfolding put
-trusted-messages s p set = refl
-
--- nor the number of processes
-trusted-size : (s : State) (p set : ℕ) → put s (trust p) set size ≡ s size
-unfolding put
-trusted-size s p set = refl
+  -- without a cascade nothing is delivered
+  whole-plain : Sound t → Whole (with-history s es) → Whole (with-history t (gained (s size) s t es))
+  whole-plain d w =
+      let none = gained-none (s size) s t es (λ r _. ap (λ (x : Process). x .causal-length) (f r)) in
+      whole-after s t es e d (subst (MeaningOf t) (sym none) (meaning-same s t e z f es (w .meaning)))
+      (quiet-same s t e z f (w .quiet)) w
 
 -- who multicast a message is its sender, after a multicast
 multicast-senders : (s : State) (es : List Event) (p groups : ℕ) → Whole (with-history s es) → (i q m : ℕ)
@@ -363,36 +244,22 @@ whole-step s es (multicasts p groups) e w =
 whole-step s es (arrives k m q p) e w =
     let l = accepted-arrival s k m q p e .letter in
     let g = arrived-ground s k m q p in
-    whole-cascade s (arrived s k m q p) es p (l .to) (ap (λ (v : Ground). v .messages) g)
-    (ap (λ (v : Ground). v .size) g)
-    (arrived-process s k m q p) (arrived-held s (w .sound) k m q p l)
+    whole-cascade s (arrived s k m q p) es (ap (λ (v : Ground). v .messages) g) (ap (λ (v : Ground). v .size) g)
+    (arrived-process s k m q p) p (l .to) (arrived-held s (w .sound) k m q p l)
     (step-sound s (arrives k m q p) e (w .sound)) w
 whole-step s es (loses k m q p) e w =
     whole-plain s (leave s k m q p) es refl refl (λ r. refl) (step-sound s (loses k m q p) e (w .sound)) w
 whole-step s es (trusts p set) e w =
     let a = accepted-trust s p set e in
-    whole-cascade s (put s (trust p) set) es p (a .process) (trusted-messages s p set) (trusted-size s p set)
-    (trusted-own s p set) (trusted-held s (w .sound) p set (a .process))
-    (step-sound s (trusts p set) e (w .sound)) w
+    whole-cascade s (put s (trust p) set) es refl refl (λ r. refl) p (a .process)
+    (trusted-held s (w .sound) p set (a .process)) (step-sound s (trusts p set) e (w .sound)) w
 whole-step s es (crashes p) e w =
     whole-plain s (put s (up p) 0) es refl refl (λ r. refl) (step-sound s (crashes p) e (w .sound)) w
 whole-step s es malformed e w = whole-plain s s es refl refl (λ r. refl) (w .sound) w
 
--- ---- runs
+-- ---- every item and every list keeps it
 pub whole-act : (r : Run State) (i : Item) → Whole r → Whole (act on-states r i)
-unfolding act tick settles
-whole-act r (given bytes) w = go (accepted (r .now) (read bytes)) refl
-  where
-    go : (b : Bool) → accepted (r .now) (read bytes) ≡ b → Whole (pick b (taken on-states r (read bytes)) r)
-    go true e = whole-step (r .now) (r .seen) (read bytes) e w
-    go false e = w
-whole-act r (settling b) w =
-    settle-keeps (λ t. lowest (t .now)) (λ t k m q p. taken on-states t (arrives k m q p)) Whole
-    (λ t k m q p e v. whole-step (t .now) (t .seen) (arrives k m q p)
-    (chosen-accepted (t .now) k m q p (lowest-moves (t .now) k m q p e)) v) b 0 r w
+whole-act = act-keeps Whole (λ r. whole-step (r .now) (r .seen))
 
--- every list keeps it
 pub whole-run : (r : Run State) (items : List Item) → Whole r → Whole (run on-states r items)
-unfolding run
-whole-run r [] w = w
-whole-run r (i ∷ items) w = whole-run (act on-states r i) items (whole-act r i w)
+whole-run = run-keeps Whole (λ r. whole-step (r .now) (r .seen))

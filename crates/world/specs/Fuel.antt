@@ -1,7 +1,7 @@
--- The fuel of the two loops suffices in a sound world: after the causal deliveries no message of the FIFO
--- log outside the causal log is deliverable, and after the cascade no held message is ready. At each turn
--- one message fewer is outside the log, and those outside are no more than the fuel, since a log lists
--- distinct messages. Assumes nothing.
+-- The fuel of the two loops suffices, where a log lists distinct messages, and so in a sound world: after the
+-- causal deliveries no message of the FIFO log outside the causal log is deliverable, and after the cascade no
+-- held message is ready. At each turn one message fewer is outside the log, and those outside are no more than
+-- the fuel. Assumes nothing.
 use mathlib.Core.Path.{_≡_, refl, sym, ap, _∙_}
 use mathlib.Core.Bool.{Bool, true, false}
 use mathlib.Core.Logic.{_≢_}
@@ -90,7 +90,7 @@ module _ (p : ℕ) where
           (in-at n (omega (arith, length-after t i)) (item-after t i))
 
   -- in a state whose causal log of p lists distinct members of the FIFO log
-  causal-ends : (s : State) → ((i j : ℕ) → i < j → j < s (causal-length p) → s (causal p i) ≢ s (causal p j))
+  pub causal-ends : (s : State) → ((i j : ℕ) → i < j → j < s (causal-length p) → s (causal p i) ≢ s (causal p j))
       → ((i : ℕ) → i < s (causal-length p) → In (s (fifo-length p)) (λ j. s (fifo p j)) (s (causal p i)))
       → (i : ℕ) → i < causal-all s p (fifo-length p) → deliverable-at (causal-all s p) p i ≡ false
   unfolding causal-all waiting
@@ -232,13 +232,20 @@ module _ (p : ℕ) where
       u : State
       u = fifo-one t p m
 
-  pub cascade-ends : (s : State) → Sound s → p < s size → (m : ℕ) → m < cascade s p count
-      → ready (cascade s p) p m ≡ false
+  -- in a state whose FIFO log of p lists distinct messages
+  pub cascade-quiet : (s : State) → ((i : ℕ) → i < s (fifo-length p) → s (fifo p i) < s count)
+      → ((i j : ℕ) → i < j → j < s (fifo-length p) → s (fifo p i) ≢ s (fifo p j))
+      → (m : ℕ) → m < cascade s p count → ready (cascade s p) p m ≡ false
   unfolding cascade
-  cascade-ends s h hp =
-      let z = absent-room (s count) (s (fifo-length p)) (λ i. s (fifo p i))
-      (λ i l. ltb-true (s (fifo p i)) (s count) (fifo-addressed s h p i hp l .of))
-      (λ i j l k. fifo-once s h p i j hp l k) in
+  cascade-quiet s low once =
+      let z = absent-room (s count) (s (fifo-length p)) (λ i. s (fifo p i)) low once in
       loop-ends (λ t. t count) (λ t. ready t p) (λ t. fifo-one t p)
       (λ t. tally (t count) (outside-fifo t p)) outside-falls
       (s count - s (fifo-length p)) s (omega (arith, z))
+
+  -- in a sound world
+  pub cascade-ends : (s : State) → Sound s → p < s size → (m : ℕ) → m < cascade s p count
+      → ready (cascade s p) p m ≡ false
+  cascade-ends s h hp =
+      cascade-quiet s (λ i l. ltb-true (s (fifo p i)) (s count) (fifo-addressed s h p i hp l .of))
+      (λ i j l k. fifo-once s h p i j hp l k)

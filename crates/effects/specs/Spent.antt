@@ -1,35 +1,29 @@
--- Each letter flies at most once: once it has left flight, by arriving or by being lost, it never flies
--- again, whatever items follow. A letter is spent when it cannot be sent any more: a first letter once its
--- message is multicast, a relay once its origin holds the message, an OK once its origin holds it in turn or
--- past it. What is sent was not spent before and is spent after, and what is spent stays so. Assumes nothing.
+-- No part of a step sends a letter twice. A letter is spent when it cannot be sent any more: a first letter
+-- once its message is multicast, a relay once its origin holds the message, an OK once its origin holds it in
+-- turn or past it. What is sent was not spent before and is spent after, and what is spent stays so. Assumes
+-- nothing.
 use mathlib.Core.Path.{_≡_, refl, ap, _∙_, subst, subst₂}
 use mathlib.Core.Bool.{Bool, true, false}
-use mathlib.Core.List.{List, [], _∷_}
+use mathlib.Core.List.{[]}
 use mathlib.Core.Logic.{_⊎_, inl, inr, _≢_}
 use Prim.Native.Nat.{ℕ, zero, suc, _-_, _≤_, _<_}
 use native.Mathlib.Omega.{arith}
 use borrow.Author.Tests.{eqb-true, ne-eqb}
-use Rattle.base.specs.Tests.{clash, pick, pick-no}
+use Rattle.base.specs.Tests.{pick, pick-no}
 use Rattle.base.specs.Loop.{loop-keeps}
-use Rattle.base.specs.Bits.{bit, bit-zero}
+use Rattle.base.specs.Bits.{bit}
 use Rattle.world.specs.World.{count, group, trust, up, fifo-length, next, held, sender, number, flight, State, put}
 use Rattle.world.specs.Layout.{put-at, put-other}
-use Rattle.world.specs.Setup.{fresh, made}
 use Rattle.world.specs.Machine.{with-tables, addressees, in-turn, ready, fifo-one, cascade, raised, stamped, numbered, multicast, leave, mark, hold, arrival, trust-set, crash}
 use Rattle.world.specs.Machine.{posted as post}
-use Rattle.world.specs.Steps.{Step, multicasts, arrives, loses, trusts, crashes, malformed, read, accepted, step}
-use Rattle.world.specs.StepLaws.{accepted-arrival, lowest-moves}
-use Rattle.world.specs.Settle.{lowest}
-use Rattle.world.specs.SettleLaws.{settle-keeps}
-use Rattle.world.specs.History.{Run, Item, given, settling, on-states, taken, tick, settles, act, run, started}
+use Rattle.world.specs.Steps.{Step, multicasts, arrives, loses, trusts, crashes, malformed, accepted, step}
+use Rattle.world.specs.StepLaws.{accepted-arrival}
 use Rattle.effects.specs.Views.{Still}
 use Rattle.effects.specs.Cascade.{Near, near-on, ok-far, ok-near, letter-cases, fifo-one-still}
-use Rattle.effects.specs.Arrival.{mark-cases, hold-cases, holding, leave-less}
-use Rattle.effects.specs.Holding.{chosen-accepted}
-use Rattle.agreement.specs.Letters.{Held, Fly}
+use Rattle.effects.specs.Arrival.{mark-cases, hold-cases, Held, Fly, holding, leave-less}
 
 -- ---- a letter that cannot be sent any more
-abbrev SentBy : State → ℕ → ℕ → ℕ → Type 0
+abbrev pub SentBy : State → ℕ → ℕ → ℕ → Type 0
 SentBy s zero m q = Unit {0}
 SentBy s (suc zero) m q = Held s q m
 SentBy s (suc (suc k)) m q = Held s q m × Near s m q
@@ -54,7 +48,7 @@ spent-on o (suc (suc k)) m q (h, x) =
     (omega (arith, o .grows), (o .held-on m q h (x .0), o .near-on m q h (x .1)))
 
 -- no change at all
-once-self : (s : State) → Once s s
+pub once-self : (s : State) → Once s s
 once-self s = record {
   grows = omega arith;
   held-on = λ m r _ h. h;
@@ -63,7 +57,7 @@ once-self s = record {
 }
 
 -- one change after another
-once-then : {s t u : State} → Once s t → Once t u → Once s u
+pub once-then : {s t u : State} → Once s t → Once t u → Once s u
 once-then {s} {t} {u} a b = record {
   grows = omega (arith, a .grows, b .grows);
   held-on = λ m r hm h. b .held-on m r (omega (arith, a .grows)) (a .held-on m r hm h);
@@ -78,7 +72,7 @@ once-then {s} {t} {u} a b = record {
 }
 
 -- ---- the parts of a step
-leave-once : (s : State) (k m q p : ℕ) → Once s (leave s k m q p)
+pub leave-once : (s : State) (k m q p : ℕ) → Once s (leave s k m q p)
 unfolding leave put
 leave-once s k m q p = record {
   grows = omega arith;
@@ -88,7 +82,7 @@ leave-once s k m q p = record {
 }
 
 -- a mark sends nothing
-mark-once : (s : State) (k m q p : ℕ) → Once s (mark s k m q p)
+pub mark-once : (s : State) (k m q p : ℕ) → Once s (mark s k m q p)
 unfolding put
 mark-once s k m q p = mark-cases (Once s) s k m q p
     (λ _. record {
@@ -100,7 +94,7 @@ mark-once s k m q p = mark-cases (Once s) s k m q p
     (λ _. once-self s)
 
 -- the answer to a message that is first held
-hold-once : (s : State) (p m : ℕ) → m < s count → Once s (hold s p m)
+pub hold-once : (s : State) (p m : ℕ) → m < s count → Once s (hold s p m)
 unfolding put
 hold-once s p m hm = hold-cases (Once s) s p m (λ _. once-self s) (λ new. record {
   grows = omega arith;
@@ -131,18 +125,17 @@ hold-once s p m hm = hold-cases (Once s) s p m (λ _. once-self s) (λ new. reco
         (kinds new (in-turn s p m) refl))
 
 -- a turn of the cascade: the OKs are for messages that come in turn now
-turn-once : (t : State) (p m : ℕ) → Once t (fifo-one t p m)
+pub turn-once : (t : State) (p m : ℕ) → Once t (fifo-one t p m)
 turn-once t p m = record {
   grows = omega (arith, count-is);
   held-on = λ x r _ h. held-is r x ∙ h;
   near-on = λ x r _. near-on t p m x r;
   new-letter = λ k x q u f. elim (letter-cases t p m x k q) [
     | inr c ↦ inl (subst (λ (v : ℕ). bit v u ≡ true) c f)
-    | inl c ↦ inr
-        (subst₂ (λ (j o : ℕ). (¬ Spent t j x o) × Spent (fifo-one t p m) j x o) (c .0 .is-ok) (c .0 .by) (
-          (λ z. absurd (omega (arith, z .1 .1, ok-far t p m x k q (c .0)))),
-          (omega (arith, count-is, c .0 .low), (held-is p x ∙ c .0 .has, ok-near t p m x k q (c .0))),
-        ))
+    | inl c ↦ inr (subst₂ (λ (j o : ℕ). (¬ Spent t j x o) × Spent (fifo-one t p m) j x o) (c .0) (c .1) (
+      (λ z. absurd (omega (arith, z .1 .1, ok-far t p m x (c .2)))),
+      (omega (arith, count-is, c .2 .low), (held-is p x ∙ c .2 .has, ok-near t p m x (c .2))),
+    ))
   ];
 }
   where
@@ -161,7 +154,7 @@ cascade-once s p =
     (s count - s (fifo-length p)) s (once-self s)
 
 -- a multicast sends the first letters of a new message
-multicast-once : (s : State) (p groups : ℕ) → Once s (multicast s p groups)
+pub multicast-once : (s : State) (p groups : ℕ) → Once s (multicast s p groups)
 unfolding multicast post numbered stamped raised put with-tables
 multicast-once s p groups = record {
   grows = omega arith;
@@ -209,71 +202,26 @@ crashed-once s p = record {
 }
 
 -- the message is one still
-marked-low : (s : State) (k m q p : ℕ) → m < s count → m < mark (leave s k m q p) k m q p count
+pub marked-low : (s : State) (k m q p : ℕ) → m < s count → m < mark (leave s k m q p) k m q p count
 unfolding leave put
 marked-low s k m q p h = mark-cases (λ t. m < t count) (leave s k m q p) k m q p (λ _. h) (λ _. h)
 
--- ---- every step, every item, every list
-step-once : (s : State) (x : Step) → (accepted s x ≡ true) → Once s (step s x)
-unfolding step arrival trust-set crash put
+-- an arrival, once the letter has left flight
+pub arrived-once : (s : State) (k m q p : ℕ) → m < s count → Once (leave s k m q p) (arrival s k m q p)
+unfolding arrival
+arrived-once s k m q p l =
+    once-then (mark-once (leave s k m q p) k m q p)
+    (once-then (hold-once (mark (leave s k m q p) k m q p) p m (marked-low s k m q p l))
+    (cascade-once (hold (mark (leave s k m q p) k m q p) p m) p))
+
+-- ---- every step
+pub step-once : (s : State) (x : Step) → (accepted s x ≡ true) → Once s (step s x)
+unfolding step trust-set crash put
 step-once s (multicasts p groups) e = multicast-once s p groups
 step-once s (arrives k m q p) e =
-    let l = accepted-arrival s k m q p e .letter .message in
-    once-then (leave-once s k m q p) (once-then (mark-once (leave s k m q p) k m q p)
-    (once-then (hold-once (mark (leave s k m q p) k m q p) p m (marked-low s k m q p l))
-    (cascade-once (hold (mark (leave s k m q p) k m q p) p m) p)))
+    once-then (leave-once s k m q p)
+    (arrived-once s k m q p (accepted-arrival s k m q p e .letter .message))
 step-once s (loses k m q p) e = leave-once s k m q p
 step-once s (trusts p set) e = once-then (trusted-once s p set) (cascade-once (put s (trust p) set) p)
 step-once s (crashes p) e = crashed-once s p
 step-once s malformed e = once-self s
-
--- an item
-act-once : (r : Run State) (i : Item) → Once (r .now) (act on-states r i .now)
-unfolding act tick settles
-act-once r (given bytes) = go (accepted (r .now) (read bytes)) refl
-  where
-    go : (b : Bool) → accepted (r .now) (read bytes) ≡ b
-        → Once (r .now) (pick b (taken on-states r (read bytes)) r .now)
-    go true e = step-once (r .now) (read bytes) e
-    go false e = once-self (r .now)
-act-once r (settling b) =
-    settle-keeps (λ t. lowest (t .now)) (λ t k m q p. taken on-states t (arrives k m q p))
-    (λ t. Once (r .now) (t .now))
-    (λ t k m q p e o. once-then o (step-once (t .now) (arrives k m q p)
-    (chosen-accepted (t .now) k m q p (lowest-moves (t .now) k m q p e)))) b 0 r (once-self (r .now))
-
--- a list
-pub run-once : (r : Run State) (items : List Item) → Once (r .now) (run on-states r items .now)
-unfolding run
-run-once r [] = once-self (r .now)
-run-once r (i ∷ items) = once-then (act-once r i) (run-once (act on-states r i) items)
-
--- ---- the theorem
--- in a fresh world no letter flies; so a letter that flies after a list is spent
-fresh-silent : (setup : List ℕ) (k m q u : ℕ) → Fly (made setup) m k q u → ⊥
-unfolding made fresh
-fresh-silent setup k m q u f = clash f (bit-zero u)
-
--- after a list, what flies is spent
-flying-spent : (setup : List ℕ) (items : List Item) (k m q u : ℕ)
-    → Fly (run on-states (started setup) items .now) m k q u
-    → Spent (run on-states (started setup) items .now) k m q
-flying-spent setup items k m q u f = elim (run-once (started setup) items .new-letter k m q u f) [
-  | inl a ↦ absurd (fresh-silent setup k m q u a)
-  | inr a ↦ a .1
-]
-
--- Each letter flies at most once: if it flies after a list of items, and does not after more items, then it
--- does not after any further ones.
-pub flies-once : (setup : List ℕ) (items more further : List Item) (k m q u : ℕ)
-    → Fly (run on-states (started setup) items .now) m k q u
-    → (¬ Fly (run on-states (run on-states (started setup) items) more .now) m k q u)
-    → ¬ Fly (run on-states (run on-states (run on-states (started setup) items) more) further .now) m k q u
-flies-once setup items more further k m q u f gone again =
-    elim (run-once (run on-states (run on-states (started setup) items) more) further .new-letter k m q u
-    again) [
-      | inl a ↦ gone a
-      | inr a ↦ a .0
-          (spent-on (run-once (run on-states (started setup) items) more) k m q
-          (flying-spent setup items k m q u f))
-    ]
