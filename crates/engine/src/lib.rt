@@ -113,7 +113,7 @@ pub extern "C" fn wt_world_log(
     ensures start { λ _. ⌜ now (start .exit) ≡ value-in (λ _. log-start p causal) (length-reply (now (w .entry)) p causal) (now (start .entry)) ⌝ }
     ensures items { λ _. ⌜ now (items .exit) ≡ value-in (λ n. n) (length-reply (now (w .entry)) p causal) (now (items .entry)) ⌝ }
 {
-    match calls::log_length(w, p as usize, causal) {
+    match reading::log_length(w, p as usize, causal) {
         LogLength::Items(n) => {
             *start = logs::start(p as usize, causal) as u32;
             *items = n as u32;

@@ -333,6 +333,11 @@ arrival-quiescent s k m q p h a r others = go (ℕ-discrete p r)
         subst (Quiescent (cascade t p)) d (cascade-quiescent t p (z .0) (z .1))
     go (no d) = cascade-others t p r d (received-others k m q p s r d (others d))
 
+-- ---- what is known where an arrival was only that of a mark: no letter was sent, and nothing delivered
+abbrev pub MarkOnly : Bool → State → ℕ → ℕ → ℕ → ℕ → Type 0
+MarkOnly true s k m q p = arrival s k m q p ≡ mark (leave s k m q p) k m q p
+MarkOnly false s k m q p = Unit {0}
+
 -- ---- what a caller may know: of one process
 abbrev pub QuiescentIf : Bool → State → ℕ → Type 0
 QuiescentIf true s p = Quiescent s p

@@ -48,9 +48,9 @@ fn print_process(w: &[u16], p: usize)
     io::print_decimal(STDOUT_FILENO, p as u64);
     print_up(w, p);
     io::write_all(STDOUT_FILENO, b" f");
-    print_items(calls::log(w, p, false));
+    print_items(reading::log(w, p, false));
     io::write_all(STDOUT_FILENO, b" c");
-    print_items(calls::log(w, p, true));
+    print_items(reading::log(w, p, true));
     io::write_all(STDOUT_FILENO, b"\n");
 }
 

@@ -1,4 +1,1 @@
-pub mod Letters
-pub mod Search
-pub mod Places
 pub mod Settling

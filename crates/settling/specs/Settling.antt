@@ -15,12 +15,11 @@ use Rattle.world.specs.Steps.{arrives, step, is-up}
 use Rattle.world.specs.StepLaws.{moves-taken, lowest-moves}
 use Rattle.keeps.specs.Keeps.{SoundWords, step-sound}
 use Rattle.world.specs.Machine.{arrival}
-use Rattle.quiescence.specs.Quiescent.{Quiescent, QuiescentIf, arrival-quiescent}
+use Rattle.quiescence.specs.Quiescent.{MarkOnly, Quiescent, QuiescentIf, arrival-quiescent}
 use Rattle.bounds.specs.Bounds.{sound-bounds}
 use Rattle.ready.specs.Ready.{quiescent-words}
-use Rattle.arrivals.specs.Arrival.{MarkOnly}
-use Rattle.settling.specs.Places.{Passed, next-place, start-passed, still-up, passed-on}
-use Rattle.settling.specs.declared.Place.{Place}
+use Rattle.letters.specs.Places.{Passed, next-place, start-passed, still-up, passed-on}
+use Rattle.letters.specs.declared.Place.{Place}
 use Rattle.world.specs.Settle.{Choice, letter, nothing, done, stopped, Settled, lowest, settle-from}
 
 -- The choice and the arrival, on words.

@@ -1,132 +1,12 @@
 // Settle: arrivals one after the other, each of the lowest letter between two up processes. The search for it goes on
 // from where the last one was found, and the processes at which a letter has arrived are known to be quiescent.
+use letters::Letter;
+use letters::Place;
 use world::Settling;
 ghost use mathlib.Core.Path.{_≡_};
-ghost use Prim.Native.Nat.{_≤_, _<_};
-ghost use lib.ListN.{length};
-ghost use Rattle.base.specs.Bits.{with, mask-of};
-ghost use Rattle.base.specs.Tests.{pick};
-ghost use Rattle.world.specs.World.{size, count, view};
-ghost use Rattle.world.specs.Steps.{is-up};
-ghost use Rattle.world.specs.Settle.{lowest};
 ghost use Rattle.world.specs.Words.{gives, settle-words};
 ghost use Rattle.world.specs.Answers.{settling-reply};
 ghost use Rattle.keeps.specs.Keeps.{SoundWords};
-ghost use Rattle.base.specs.Search.{first-from};
-ghost use Rattle.settling.specs.Letters.{choice-of};
-ghost use Rattle.settling.specs.Search.{waiting};
-ghost use Rattle.settling.specs.Places.{Passed, sends-ok, next-place};
-
-// A letter: its kind, its message, where it comes from and where it goes; or nothing.
-pub enum Letter {
-    At(usize, usize, usize, usize),
-    Nothing,
-}
-
-// The mask, with q in it if q is up.
-fn with_up(w: &[u16], mask: u16, q: usize) -> u16
-    requires { ⌜ (length (now w) ≡ 20480) × (q < 16) ⌝ }
-    ensures { λ r. ⌜ r ≡ pick (is-up (view (now (w .entry))) q) (with mask q) mask ⌝ }
-{
-    if cells::word(w, cells::PROCESSES + q * cells::PROCESS + cells::UP) == 1 {
-        return masks::set(mask, q);
-    }
-    mask
-}
-
-// The up processes, as a mask.
-fn up_mask(w: &[u16]) -> u16
-    requires { ⌜ (length (now w) ≡ 20480) × (view (now w) size ≤ 16) ⌝ }
-    ensures { λ r. ⌜ r ≡ mask-of (view (now (w .entry)) size) (is-up (view (now (w .entry)))) ⌝ }
-{
-    let n = cells::word(w, cells::SIZE);
-    let mut mask: u16 = 0;
-    let mut q: usize = 0;
-    while q < n {
-        mask = with_up(w, mask, q);
-        q += 1;
-    }
-    mask
-}
-
-// The up receivers of the letters of kind k for m from q, if q is up.
-fn receivers(w: &[u16], up: u16, m: usize, k: usize, q: usize) -> u16
-    requires { ⌜ (length (now w) ≡ 20480) × (m < 64) × (k < 3) × (q < 16) × (q < view (now w) size) × (up ≡ mask-of (view (now w) size) (is-up (view (now w)))) ⌝ }
-    ensures { λ r. ⌜ r ≡ waiting (view (now (w .entry))) m k q ⌝ }
-{
-    if !masks::test(up, q) {
-        return 0;
-    }
-    w[cells::MESSAGES + m * cells::MESSAGE + cells::FLIGHT + (k * 16 + q)] & up
-}
-
-// A place in the search for the lowest letter: a message, a kind, an origin.
-pub struct Place {
-    pub message: usize,
-    pub kind: usize,
-    pub origin: usize,
-}
-
-// The lowest letter between two up processes, by message, kind, from, to. None stands before the place.
-pub fn lowest_letter(w: &[u16], up: u16, from: Place) -> Letter
-    requires { ⌜ (length (now w) ≡ 20480) × (view (now w) size ≤ 16) × (view (now w) count ≤ 64) × (up ≡ mask-of (view (now w) size) (is-up (view (now w)))) × Passed (view (now w)) from ⌝ }
-    ensures { λ r. ⌜ choice-of r ≡ lowest (view (now (w .entry))) ⌝ }
-{
-    let n = cells::word(w, cells::SIZE);
-    let messages = cells::word(w, cells::COUNT);
-    let mut found = Letter::Nothing;
-    let mut m = from.message;
-    let mut k = from.kind;
-    let mut q = from.origin;
-    'search: while m < messages {
-        while k < 3 {
-            while q < n {
-                let p = masks::lowest(receivers(w, up, m, k, q)) as usize;
-                if p < n {
-                    found = Letter::At(k, m, q, p);
-                    break 'search;
-                }
-                q += 1;
-            }
-            q = 0;
-            k += 1;
-        }
-        k = 0;
-        m += 1;
-    }
-    found
-}
-
-// The lowest message below m of which p has an OK in flight to an up process, or m.
-fn lowest_ok(w: &[u16], up: u16, p: usize, m: usize) -> usize
-    requires { ⌜ (length (now w) ≡ 20480) × (p < 16) × (m ≤ 64) ⌝ }
-    ensures { λ r. ⌜ r ≡ first-from m 0 (sends-ok (view (now (w .entry))) up p) ⌝ }
-{
-    let mut x: usize = 0;
-    while x < m {
-        if w[cells::MESSAGES + x * cells::MESSAGE + cells::FLIGHT + (2 * 16 + p)] & up != 0 {
-            return x;
-        }
-        x += 1;
-    }
-    m
-}
-
-// Where the search goes on after the arrival of a letter at p, the lowest one: where that letter stood, if it only set
-// a mark; else p may have sent letters of its message, and OKs.
-fn next_place(w: &[u16], up: u16, at: Place, p: usize, marked: bool) -> Place
-    requires { ⌜ (length (now w) ≡ 20480) × (p < 16) × (at .message ≤ 64) ⌝ }
-    ensures { λ r. ⌜ r ≡ next-place (view (now (w .entry))) up at p marked ⌝ }
-{
-    if marked {
-        return at;
-    }
-    Place {
-        message: lowest_ok(w, up, p, at.message),
-        kind: 0,
-        origin: 0,
-    }
-}
 
 // Makes at most `budget` arrivals in a sound world, each of the lowest letter.
 pub fn settle_sound(w: &mut [u16], budget: u32) -> Settling
@@ -134,7 +14,7 @@ pub fn settle_sound(w: &mut [u16], budget: u32) -> Settling
     ensures answer { λ r. ⌜ settling-reply r ≡ gives (settle-words (now (w .entry)) budget .ending) ⌝ }
     ensures words { λ _. ⌜ now (w .exit) ≡ settle-words (now (w .entry)) budget .world ⌝ }
 {
-    let up = up_mask(w);
+    let up = letters::up_mask(w);
     let mut quiescent: u16 = 0;
     let mut place = Place {
         message: 0,
@@ -143,7 +23,7 @@ pub fn settle_sound(w: &mut [u16], budget: u32) -> Settling
     };
     let mut made: u32 = 0;
     while made < budget {
-        let Letter::At(k, m, q, p) = lowest_letter(w, up, place) else {
+        let Letter::At(k, m, q, p) = letters::lowest_letter(w, up, place) else {
             return Settling::Done(made);
         };
         let marked = arrivals::arrive(w, k, m, q, p, masks::test(quiescent, p));
@@ -153,10 +33,10 @@ pub fn settle_sound(w: &mut [u16], budget: u32) -> Settling
             kind: k,
             origin: q,
         };
-        place = next_place(w, up, at, p, marked);
+        place = letters::next_place(w, up, at, p, marked);
         made += 1;
     }
-    match lowest_letter(w, up, place) {
+    match letters::lowest_letter(w, up, place) {
         Letter::At(_, _, _, _) => Settling::Stopped(made),
         Letter::Nothing => Settling::Done(made),
     }

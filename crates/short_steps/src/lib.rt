@@ -11,7 +11,7 @@ pub fn lose(w: &mut [u16], k: usize, m: usize, q: usize, p: usize)
     requires { ⌜ (length (now w) ≡ 20480) × (k < 3) × (m < 64) × (q < 16) × (p < 16) ⌝ }
     ensures { λ _. ⌜ now (w .exit) ≡ encode (leave (view (now (w .entry))) k m q p) ⌝ }
 {
-    arrivals::take_out(w, k, m, q, p);
+    receiving::take_out(w, k, m, q, p);
 }
 
 // Process p trusts the processes of a mask from now on.

@@ -6,7 +6,8 @@ use Rattle.world.specs.Machine.{leave, mark, arrival}
 use Rattle.world.specs.World.{State, encode, view}
 use Rattle.bounds.specs.Bounds.{Bounds, bounds-words}
 use Rattle.keeps.specs.Cascade.{received}
-use Rattle.arrivals.specs.Arrival.{received-law, over-law, mark-only, bounds-marked, bounds-hold}
+use Rattle.receiving.specs.Receiving.{bounds-marked, bounds-hold}
+use Rattle.arrivals.specs.Arrival.{received-law, over-law, mark-only}
 use Rattle.arrivals.proofs.arrive.Statement.{statement}
 use Rattle.arrivals.proofs.arrive.Tie as tie
 

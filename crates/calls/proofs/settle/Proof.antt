@@ -4,7 +4,7 @@ use Rattle.world.specs.Words.{needs-world}
 use Rattle.world.specs.Answers.{outcome-number, refusal-number}
 use Rattle.keeps.specs.Keeps.{taken-sound-words}
 use Rattle.refusals.specs.Refused.{refusal-some}
-use Rattle.calls.specs.Tested.{settle-refused, settle-taken}
+use Rattle.reading.specs.Tested.{settle-refused, settle-taken}
 use borrow.Author.Needs.{needs}
 use Rattle.calls.proofs.settle.Statement.{statement}
 use Rattle.calls.proofs.settle.Tie as tie

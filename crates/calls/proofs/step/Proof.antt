@@ -4,7 +4,7 @@ use Rattle.world.specs.Words.{needs-world}
 use Rattle.world.specs.Answers.{outcome-number, refusal-number}
 use Rattle.keeps.specs.Keeps.{SoundWords, taken-sound-words}
 use Rattle.refusals.specs.Refused.{refusal-some}
-use Rattle.calls.specs.Tested.{step-refused, step-taken}
+use Rattle.reading.specs.Tested.{step-refused, step-taken}
 use borrow.Author.Needs.{needs}
 use Rattle.calls.proofs.step.Statement.{statement}
 use Rattle.calls.proofs.step.Tie as tie

@@ -4,7 +4,7 @@ use Prim.Native.Nat.{ℕ, _+_, _≤_, _<_}
 use native.Mathlib.Omega.{arith}
 use Rattle.world.specs.Words.{Reply, gives, log-start, length-reply}
 use Rattle.world.specs.Answers.{log-length-reply}
-use Rattle.calls.specs.Tested.{logged, log-inside}
+use Rattle.reading.specs.Tested.{logged, log-inside}
 use Rattle.engine.specs.Values.{refusal-in, value-in}
 use borrow.Author.Needs.{needs}
 use Rattle.engine.proofs.wt_world_log.Statement.{statement}

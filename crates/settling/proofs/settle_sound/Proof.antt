@@ -14,7 +14,7 @@ use Rattle.world.specs.SoundLaws.{size-high, count-high}
 use Rattle.world.specs.Settle.{letter, Settled, lowest}
 use Rattle.world.specs.Words.{gives, settle-words}
 use Rattle.bounds.specs.Bounds.{sound-bounds}
-use Rattle.settling.specs.Letters.{choice-of}
+use Rattle.letters.specs.Letters.{choice-of}
 use Rattle.settling.specs.Settling.{settling-from, settle-more, settle-done, settle-stopped, rested-known, letter-within, Going, going-first, going-on}
 use Rattle.settling.proofs.settle_sound.Statement.{statement}
 use Rattle.settling.proofs.settle_sound.Tie as tie

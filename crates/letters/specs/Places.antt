@@ -1,0 +1,337 @@
+-- Where the search for the lowest letter may start: no letter that can move stands before the place. After an arrival
+-- of the lowest letter it may go on where that one stood if only a mark was set, and else at the lowest message of
+-- which the receiver has an OK in flight. Assumes nothing.
+use mathlib.Core.Path.{_≡_, refl, sym, ap, ap₂, _∙_, subst}
+use mathlib.Core.Bool.{Bool, true, false, not, _&&_}
+use mathlib.Core.Logic.{_≢_, _⊎_, inl, inr}
+use Prim.Native.Nat.{ℕ, zero, suc, _+_, _-_, _≤_, _<_}
+use native.Mathlib.Omega.{arith}
+use native.Mathlib.Nat.{sub-zero}
+use native.Mathlib.Decide.{ℕ-discrete}
+use lib.Bits.{bitAnd}
+use lib.Dec.{ltb, eqb}
+use borrow.Author.Tests.{ltb-true, ltb-false, lt-ltb, le-ltb, eqb-true, not-false}
+use Rattle.base.specs.Tests.{pick, clash, bool-cases, both-l, both-r}
+use Rattle.base.specs.Search.{first-from, First, first-law, first-skip, first-end}
+use Rattle.base.specs.Bits.{bit, with, without, mask-of, mask-of-cong, bit-and, bit-zero, bit-mask-of}
+use Rattle.world.specs.World.{Cell, size, count, up, marks, flight, Within, State, put}
+use Rattle.world.specs.Layout.{put-other}
+use Rattle.world.specs.Sound.{Sound}
+use Rattle.world.specs.SoundLaws.{size-high, count-high}
+use Rattle.world.specs.Machine.{leave, mark, arrival}
+use Rattle.world.specs.StepLaws.{InFlight, lowest-moves}
+use Rattle.world.specs.Steps.{is-up, in-flight}
+use Rattle.world.specs.Settle.{Choice, letter, nothing, moves, receiver, origin, kind, movable, letter-of, lowest}
+use Rattle.quiescence.specs.Quiescent.{MarkOnly, arrival-size, arrival-count, arrival-up, arrival-letter}
+use Rattle.letters.specs.declared.Place.{Place}
+
+-- ---- before a place, by message, kind, origin
+abbrev pub Before : ℕ → ℕ → ℕ → Place → Type 0
+Before m k q at = (m < at .message) ⊎ ((m ≡ at .message) × ((k < at .kind) ⊎ ((k ≡ at .kind) × (q < at .origin))))
+
+-- No letter that can move stands before the place, which is one of the search.
+pub record Passed (s : State) (at : Place) : Type 0 where
+  pub messages : at .message ≤ s count
+  pub low : at .message < 64
+  pub kinds : at .kind < 3
+  pub origins : at .origin ≤ s size
+  pub none : (m k q p : ℕ) → Before m k q at → k < 3 → q < s size → p < s size → moves s m k q p ≡ false
+
+-- ---- a search that starts late finds the same
+pub first-later : (f : ℕ → Bool) (n i : ℕ) → i ≤ n → ((j : ℕ) → j < i → f j ≡ false)
+    → first-from n 0 f ≡ first-from (n - i) i f
+first-later f n zero h none = ap (λ (k : ℕ). first-from k 0 f) (sym (sub-zero n))
+first-later f n (suc i) h none =
+    first-later f n i (omega arith) (λ j l. none j (omega arith))
+    ∙ first-skip f n i (omega arith) (none i (omega arith)) ∙ plain
+  where
+    plain : first-from (n - (i + 1)) (i + 1) f ≡ first-from (n - suc i) (suc i) f
+    plain = let e : i + 1 ≡ suc i = omega arith in ap (λ (k : ℕ). first-from (n - k) k f) e
+
+none-first : (f : ℕ → Bool) (n : ℕ) → ((j : ℕ) → j < n → f j ≡ false) → ltb (first-from n 0 f) n ≡ false
+none-first f n none =
+    ap (λ (x : ℕ). ltb x n) (first-later f n n (omega arith) none ∙ first-end f n n refl)
+    ∙ le-ltb n n (omega arith)
+
+-- ---- what a place passed tells of the search
+module _ (s : State) where
+  unmoved-origin : (m k q : ℕ) → ((p : ℕ) → p < s size → moves s m k q p ≡ false)
+      → ltb (receiver s m k q) (s size) ≡ false
+  unfolding receiver
+  unmoved-origin m k q none = none-first (moves s m k q) (s size) none
+
+  unmoved-kind : (m k : ℕ) → ((q p : ℕ) → q < s size → p < s size → moves s m k q p ≡ false)
+      → ltb (origin s m k) (s size) ≡ false
+  unfolding origin
+  unmoved-kind m k none =
+      none-first (λ q. ltb (receiver s m k q) (s size)) (s size)
+      (λ q l. unmoved-origin m k q (λ p h. none q p l h))
+
+  unmoved-message : (m : ℕ) → ((k q p : ℕ) → k < 3 → q < s size → p < s size → moves s m k q p ≡ false)
+      → movable s m ≡ false
+  unfolding movable kind
+  unmoved-message m none =
+      none-first (λ k. ltb (origin s m k) (s size)) 3 (λ k l. unmoved-kind m k (λ q p. none k q p l))
+
+  module _ (at : Place) (h : Passed s at) where
+    pub from-message : first-from (s count) 0 (movable s) ≡ first-from (s count - at .message) (at .message) (movable s)
+    from-message =
+        first-later (movable s) (s count) (at .message) (h .messages)
+        (λ m l. unmoved-message m (λ k q p. h .none m k q p (inl l)))
+
+    pub from-kind : kind s (at .message)
+        ≡ first-from (3 - at .kind) (at .kind) (λ k. ltb (origin s (at .message) k) (s size))
+    unfolding kind
+    from-kind =
+        let l = h .kinds in
+        first-later (λ k. ltb (origin s (at .message) k) (s size)) 3 (at .kind) (omega arith)
+        (λ k l. unmoved-kind (at .message) k
+        (λ q p. h .none (at .message) k q p (inr (refl, inl l)) (omega (arith, h .kinds))))
+
+    pub from-origin : origin s (at .message) (at .kind)
+        ≡ first-from (s size - at .origin) (at .origin) (λ q. ltb (receiver s (at .message) (at .kind) q) (s size))
+    unfolding origin
+    from-origin =
+        first-later (λ q. ltb (receiver s (at .message) (at .kind) q) (s size)) (s size) (at .origin) (h .origins)
+        (λ q l. unmoved-origin (at .message) (at .kind) q
+        (λ p. h .none (at .message) (at .kind) q p (inr (refl, inr (refl, l))) (h .kinds) (omega (arith, h .origins))))
+
+-- the search from its start
+pub start-passed : (s : State) → Passed s (record { message = 0; kind = 0; origin = 0 })
+start-passed s = record {
+  messages = omega arith;
+  low = omega arith;
+  kinds = omega arith;
+  origins = omega arith;
+  none = λ m k q p b _ _ _. elim b [
+    | inl l ↦ absurd (omega arith)
+    | inr e ↦ elim (e .1) [ inl l ↦ absurd (omega arith) | inr x ↦ absurd (let l = x .1 in omega arith) ]
+  ];
+}
+
+-- ---- no letter that can move stands before the lowest
+miss : (n : ℕ) (f : ℕ → Bool) → ltb (first-from n 0 f) n ≡ false → (i : ℕ) → i < n → f i ≡ false
+miss n f e i h =
+    let l = ltb-false (first-from n 0 f) n e in first-law n 0 f .miss i (omega arith) (omega arith)
+
+earlier : (n : ℕ) (f : ℕ → Bool) (x : ℕ) → first-from n 0 f ≡ x → (i : ℕ) → i < x → f i ≡ false
+earlier n f x e i h = first-law n 0 f .miss i (omega arith) (omega (arith, e))
+
+module _ (s : State) where
+  no-receiver : (m k q : ℕ) → ltb (receiver s m k q) (s size) ≡ false → (p : ℕ) → p < s size
+      → moves s m k q p ≡ false
+  unfolding receiver
+  no-receiver m k q e = miss (s size) (moves s m k q) e
+
+  no-origin : (m k : ℕ) → ltb (origin s m k) (s size) ≡ false → (q p : ℕ) → q < s size → p < s size
+      → moves s m k q p ≡ false
+  unfolding origin
+  no-origin m k e q p hq = no-receiver m k q (miss (s size) (λ q. ltb (receiver s m k q) (s size)) e q hq) p
+
+  no-kind : (m : ℕ) → movable s m ≡ false → (k q p : ℕ) → k < 3 → q < s size → p < s size → moves s m k q p ≡ false
+  unfolding movable kind
+  no-kind m e k q p hk = no-origin m k (miss 3 (λ k. ltb (origin s m k) (s size)) e k hk) q p
+
+  abbrev IsLetter : Choice → Type 0
+  IsLetter (letter k m q p) = Unit {0}
+  IsLetter nothing = ⊥
+
+  -- what the lowest letter is the first of
+  record Lowest (k m q : ℕ) : Type 0 where
+    first-message : first-from (s count) 0 (movable s) ≡ m
+    first-kind : kind s m ≡ k
+    first-origin : origin s m k ≡ q
+    low-message : m < s count
+
+  lowest-first : (k m q p : ℕ) → lowest s ≡ letter k m q p → Lowest k m q
+  unfolding lowest letter-of
+  lowest-first k m q p e = go (ltb x (s count)) refl e
+    where
+      x : ℕ
+      x = first-from (s count) 0 (movable s)
+
+      go : (b : Bool) → ltb x (s count) ≡ b
+          → elim b as (λ _. Choice) [ true ↦ letter-of s x | false ↦ nothing ] ≡ letter k m q p → Lowest k m q
+      go true h z =
+          let em : x ≡ m = cc in
+          let ek : kind s x ≡ k = cc in
+          let eq : origin s x (kind s x) ≡ q = cc in
+          let l = ltb-true x (s count) h in
+          record {
+            first-message = em;
+            first-kind = ap (kind s) (sym em) ∙ ek;
+            first-origin = ap₂ (origin s) (sym em) (sym ek) ∙ eq;
+            low-message = omega (arith, em);
+          }
+      go false h z = absurd (subst IsLetter (sym z) tt)
+
+  -- and so none that moves stands before it
+  pub lowest-before : (k m q p : ℕ) → lowest s ≡ letter k m q p → (x j o r : ℕ)
+      → Before x j o (record { message = m; kind = k; origin = q }) → j < 3 → o < s size → r < s size
+      → moves s x j o r ≡ false
+  unfolding kind origin
+  lowest-before k m q p e x j o r b hj ho hr = go b
+    where
+      f : Lowest k m q
+      f = lowest-first k m q p e
+
+      go : Before x j o (record { message = m; kind = k; origin = q }) → moves s x j o r ≡ false
+      go (inl l) = no-kind x (earlier (s count) (movable s) m (f .first-message) x l) j o r hj ho hr
+      go (inr (ex, inl l)) =
+          ap (λ (y : ℕ). moves s y j o r) ex
+          ∙ no-origin m j (earlier 3 (λ i. ltb (origin s m i) (s size)) k (f .first-kind) j l) o r ho hr
+      go (inr (ex, inr (ej, l))) =
+          ap₂ (λ (y i : ℕ). moves s y i o r) ex ej
+          ∙ no-receiver m k o
+          (earlier (s size) (λ i. ltb (receiver s m k i) (s size)) q (f .first-origin) o l) r hr
+
+-- ---- where the search goes on
+-- p has an OK of message x in flight to a process of the mask
+abbrev pub sends-ok : State → ℕ → ℕ → ℕ → Bool
+sends-ok s live p x = not (eqb (bitAnd (s (flight x 2 p)) live) 0)
+
+unfoldable pub next-place : State → ℕ → Place → ℕ → Bool → Place
+next-place s live at p true = at
+next-place s live at p false = record {
+  message = first-from (at .message) 0 (sends-ok s live p);
+  kind = 0;
+  origin = 0;
+}
+
+-- ---- after the arrival of the lowest letter, in words t of the state that it leaves
+module _ (s t : State) (k m q p live : ℕ) (h : Sound s) (e : lowest s ≡ letter k m q p)
+    (ups : live ≡ mask-of (s size) (is-up s))
+    (same : (c : Cell) → Within c → t c ≡ arrival s k m q p c) where
+  abbrev place : Place
+  place = record { message = m; kind = k; origin = q }
+
+  abbrev u : State
+  u = arrival s k m q p
+
+  moving : InFlight s k m q p
+  moving = lowest-moves s k m q p e .letter
+
+  pub sizes : t size ≡ s size
+  sizes = same size tt ∙ arrival-size s k m q p
+
+  counts : t count ≡ s count
+  counts = same count tt ∙ arrival-count s k m q p
+
+  lives : (r : ℕ) → r < 16 → is-up t r ≡ is-up s r
+  lives r l = ap (λ (x : ℕ). eqb x 1) (same (up r) l ∙ arrival-up s k m q p r)
+
+  -- the up processes are the same
+  pub still-up : live ≡ mask-of (t size) (is-up t)
+  still-up =
+      ups ∙ ap (λ (n : ℕ). mask-of n (is-up s)) (sym sizes)
+      ∙ mask-of-cong (t size) (is-up s) (is-up t)
+      (λ r l. sym (lives r (omega (arith, sizes, size-high s h))))
+
+  -- where the letters of x, j, o are the same, none moves that did not
+  unmoved : (x j o r : ℕ) → o < 16 → r < 16 → t (flight x j o) ≡ s (flight x j o) → moves s x j o r ≡ false
+      → moves t x j o r ≡ false
+  unfolding moves
+  unmoved x j o r ho hr f z =
+      ap₂ _&&_ (ap₂ _&&_ (ap (λ (y : ℕ). bit y r) f) (lives o ho)) (lives r hr) ∙ z
+
+  -- no OK of p moves where none goes to an up process
+  no-ok : (x r : ℕ) → r < s size → sends-ok t live p x ≡ false → moves t x 2 p r ≡ false
+  unfolding moves
+  no-ok x r l z = go (bool-cases (moves-now))
+    where
+      moves-now : Bool
+      moves-now = in-flight t 2 x p r && is-up t p && is-up t r
+
+      zero-mask : bitAnd (t (flight x 2 p)) live ≡ 0
+      zero-mask = eqb-true (bitAnd (t (flight x 2 p)) live) 0 (not-false _ z)
+
+      go : (moves-now ≡ true) ⊎ (moves-now ≡ false) → moves-now ≡ false
+      go (inr f) = f
+      go (inl f) =
+          let a = both-l (in-flight t 2 x p r && is-up t p) (is-up t r) f in
+          let flies = both-l (in-flight t 2 x p r) (is-up t p) a in
+          let lives-on = both-r (in-flight t 2 x p r && is-up t p) (is-up t r) f in
+          let named : bit live r ≡ true =
+          ap (λ (y : ℕ). bit y r) ups ∙ bit-mask-of (s size) (is-up s) r l
+          ∙ sym (lives r (omega (arith, size-high s h))) ∙ lives-on in
+          clash (bit-and (t (flight x 2 p)) live r ∙ ap₂ _&&_ flies named)
+          (ap (λ (y : ℕ). bit y r) zero-mask ∙ bit-zero r)
+
+  -- a mark only
+  letters-of-mark : (x j o : ℕ) → Before x j o place → mark (leave s k m q p) k m q p (flight x j o) ≡ s (flight x j o)
+  unfolding leave mark put
+  letters-of-mark x j o b = choose (eqb k 2)
+    where
+      other : flight m k q ≢ flight x j o
+      other d =
+          let em : m ≡ x = cc in
+          let ek : k ≡ j = cc in
+          let eq : q ≡ o = cc in
+          elim b [
+            | inl l ↦ absurd (omega arith)
+            | inr y ↦ elim (y .1) [ inl l ↦ absurd (omega arith) | inr z ↦ let l = z .1 in absurd (omega arith) ]
+          ]
+
+      left : State
+      left = put s (flight m k q) (without (s (flight m k q)) p)
+
+      choose : (b : Bool) → pick b (put left (marks p m) (with (left (marks p m)) q)) left (flight x j o) ≡ s (flight x j o)
+      choose true = put-other s (flight m k q) (flight x j o) _ other
+      choose false = put-other s (flight m k q) (flight x j o) _ other
+
+  pub passed-on : (b : Bool) → MarkOnly b s k m q p → Passed t (next-place t live place p b)
+  unfolding next-place
+  passed-on true only = record {
+    messages = omega (arith, moving .message, counts);
+    low = omega (arith, moving .message, count-high s h);
+    kinds = moving .kind;
+    origins = omega (arith, moving .from, sizes);
+    none = λ x j o r b hj ho hr.
+        let so : o < s size = omega (arith, sizes) in
+        let sr : r < s size = omega (arith, sizes) in
+        let tx : x < 64 = before-low x j o b in
+        unmoved x j o r (omega (arith, size-high s h)) (omega (arith, size-high s h))
+        (same (flight x j o) (tx, hj, omega (arith, size-high s h))
+        ∙ ap (λ (y : State). y (flight x j o)) only ∙ letters-of-mark x j o b)
+        (lowest-before s k m q p e x j o r b hj so sr);
+  }
+    where
+      before-low : (x j o : ℕ) → Before x j o place → x < 64
+      before-low x j o (inl l) = omega (arith, moving .message, count-high s h)
+      before-low x j o (inr y) = let d = y .0 in omega (arith, moving .message, count-high s h)
+  passed-on false only = record {
+    messages = omega (arith, moving .message, counts, law .high);
+    low = omega (arith, moving .message, count-high s h, law .high);
+    kinds = omega arith;
+    origins = omega arith;
+    none = λ x j o r b hj ho hr. elim b [
+      | inl l ↦ earlier-message x j o r l hj (omega (arith, sizes)) (omega (arith, sizes))
+      | inr y ↦ elim (y .1) [ inl l ↦ absurd (omega arith) | inr z ↦ let l = z .1 in absurd (omega arith) ]
+    ];
+  }
+    where
+      first : ℕ
+      first = first-from m 0 (sends-ok t live p)
+
+      law : First m 0 (sends-ok t live p) first
+      law = first-law m 0 (sends-ok t live p)
+
+      earlier-message : (x j o r : ℕ) → x < first → j < 3 → o < s size → r < s size → moves t x j o r ≡ false
+      earlier-message x j o r l hj ho hr = go (ℕ-discrete j 2) (ℕ-discrete o p)
+        where
+          before : moves s x j o r ≡ false
+          before = lowest-before s k m q p e x j o r (inl (omega (arith, law .high))) hj ho hr
+
+          kept : (j ≢ 2) ⊎ (o ≢ p) → moves t x j o r ≡ false
+          kept d =
+              unmoved x j o r (omega (arith, size-high s h)) (omega (arith, size-high s h))
+              (same (flight x j o)
+              (omega (arith, law .high, moving .message, count-high s h), hj, omega (arith, size-high s h))
+              ∙ arrival-letter s k m q p x j o (λ z. omega (arith, law .high)) d)
+              before
+
+          go : Dec (j ≡ 2) → Dec (o ≡ p) → moves t x j o r ≡ false
+          go (yes ej) (yes eo) =
+              ap₂ (λ (i z : ℕ). moves t x i z r) ej eo ∙ no-ok x r hr (law .miss x (omega arith) l)
+          go (no d) z = kept (inl d)
+          go (yes ej) (no d) = kept (inr d)

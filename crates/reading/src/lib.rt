@@ -1,0 +1,44 @@
+// Words that are lent as a world, tested; and the logs of a world read. Neither asks anything of its caller.
+use world::LogLength;
+use world::Outcome;
+use world::Refusal;
+ghost use mathlib.Core.Path.{_≡_};
+ghost use Rattle.world.specs.Words.{needs-world, log-words, length-reply};
+ghost use Rattle.world.specs.Answers.{outcome-number, log-length-reply};
+
+// Whether the words are a sound world: 1, then 2.
+pub fn tested(w: &[u16]) -> Outcome
+    ensures { λ r. ⌜ outcome-number r ≡ needs-world (now (w .entry)) 0 ⌝ }
+{
+    if w.len() != cells::WORLD {
+        return Outcome::Refused(Refusal::WorldLength);
+    }
+    if soundness::test(w) {
+        return Outcome::Taken;
+    }
+    Outcome::Refused(Refusal::WorldUnsound)
+}
+
+// The length of the FIFO or the causal log of process p: 1, 2, then 5.
+pub fn log_length(w: &[u16], p: usize, causal: bool) -> LogLength
+    ensures { λ r. ⌜ log-length-reply r ≡ length-reply (now (w .entry)) p causal ⌝ }
+{
+    if let Outcome::Refused(r) = tested(w) {
+        return LogLength::Refused(r);
+    }
+    if cells::word(w, cells::SIZE) <= p {
+        return LogLength::Refused(Refusal::NoProcess);
+    }
+    LogLength::Items(logs::items(w, p, causal))
+}
+
+// The FIFO or the causal log of process p, as a part of the world; empty where it is refused.
+pub fn log(w: &[u16], p: usize, causal: bool) -> &[u16]
+    ensures { λ r. ⌜ now r ≡ log-words (now (w .entry)) p causal ⌝ }
+{
+    let LogLength::Items(n) = log_length(w, p, causal) else {
+        return &w[0..0];
+    };
+    let at = logs::start(p, causal);
+    &w[at..at + n]
+}
