@@ -18,6 +18,12 @@ bool-cases false = inr refl
 pub clash : {A : Type 0} {b : Bool} → b ≡ true → b ≡ false → A
 clash p q = absurd (true≢false (sym p ∙ q))
 
+-- two tests that pass together are the same
+pub same : (a b : Bool) → (a ≡ true → b ≡ true) → (b ≡ true → a ≡ true) → a ≡ b
+same true b f g = sym (f refl)
+same false true f g = g refl
+same false false f g = refl
+
 -- ---- and, or; as functions, for the laws that name their two sides
 abbrev pub both : Bool → Bool → Bool
 both a b = a && b

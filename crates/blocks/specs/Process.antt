@@ -6,7 +6,7 @@ use Prim.Native.Nat.{ℕ, _+_, _-_, _*_, _/_, _^_, _≤_, _<_}
 use native.Mathlib.Omega.{arith}
 use lib.Dec.{ltb, leb, eqb}
 use borrow.Author.Tests.{lt-ltb, ltb-true}
-use Rattle.base.specs.Tests.{both, both-l, both-r, both-i}
+use Rattle.base.specs.Tests.{both, both-l, both-r, both-i, same}
 use Rattle.base.specs.Search.{every}
 use Rattle.base.specs.Count.{absent}
 use Rattle.base.specs.Bits.{only}
@@ -14,7 +14,6 @@ use Rattle.world.specs.World.{State, size, count, group, trust, counter, sequen
 use Rattle.world.specs.Sound.{frame, process, message, addressee, word, item, fit, fine}
 use Rattle.world.specs.SoundLaws.{word-in, word-leb}
 use Rattle.ranges.specs.Ranges.{within-at}
-use Rattle.ranges.specs.Laws.{same}
 use Rattle.ranges.specs.Sets.{shift-only}
 use Rattle.regions.specs.Runs.{fine-run, run-one, run-join, run-part, run-cell}
 use Rattle.regions.specs.Rows.{Block}

@@ -9,14 +9,8 @@ use native.Mathlib.Decide.{ℕ-discrete}
 use lib.Bits.{bitOr, bitAnd, or-add-and, and-le-l, and-le-r}
 use lib.Dec.{ltb, eqb}
 use borrow.Author.Tests.{ltb-true, ltb-false, eq-eqb, ne-eqb}
-use Rattle.base.specs.Tests.{both, both-l, both-r, both-i}
+use Rattle.base.specs.Tests.{both, both-l, both-r, both-i, same}
 use Rattle.base.specs.Search.{every, every-true, every-intro, some}
-
--- two tests that pass together are the same
-pub same : (a b : Bool) → (a ≡ true → b ≡ true) → (b ≡ true → a ≡ true) → a ≡ b
-same true b f g = sym (f refl)
-same false true f g = g refl
-same false false f g = refl
 
 pub and-swap : (a b : Bool) → (a && b) ≡ (b && a)
 and-swap true true = refl

@@ -1,25 +1,23 @@
 -- The test "ready" of the cascade, read off words, in the code's order, and quiescent processes. Assumes nothing.
-use mathlib.Core.Path.{_≡_, refl, sym, ap, ap₂, _∙_, subst}
+use mathlib.Core.Path.{_≡_, refl, sym, ap, ap₂, _∙_}
 use mathlib.Core.Bool.{Bool, true, false, not, _&&_}
 use mathlib.Core.List.{List}
 use Prim.Native.Nat.{ℕ, _≤_, _<_}
 use native.Mathlib.Omega.{arith}
 use lib.Bits.{bitAnd, bitXor}
-use lib.Pow.{pow-pos}
 use lib.Dec.{eqb}
-use native.Mathlib.Decide.{ℕ-discrete}
-use mathlib.Core.Logic.{_≢_}
 use borrow.Author.Tests.{eq-eqb, ne-eqb}
-use Rattle.base.specs.Tests.{both, either, clash}
-use Rattle.base.specs.Bits.{bit, without, differs, bit-and, bit-xor, bit-zero, without-old, without-other}
-use Rattle.base.specs.Search.{every, every-intro, every-fails, every-cong, first-from, first-law}
-use Rattle.base.specs.Count.{absent}
+use Rattle.base.specs.Tests.{clash, same, both, both-l, both-r, either}
+use Rattle.base.specs.Bits.{bit, only, differs, bit-and, bit-xor, bit-mask-of, mask-of-member, only-e, only-i}
+use Rattle.base.specs.Search.{every, every-true, every-intro, every-fails, every-cong, first-from, first-law}
+use Rattle.base.specs.Count.{tally, absent}
 use Rattle.base.specs.Loop.{chosen}
 use Rattle.world.specs.World.{size, count, trust, fifo-length, held, marks, fifo, State, encode, view, Reads}
 use Rattle.world.specs.Layout.{get-encode}
-use Rattle.world.specs.Machine.{addressed, in-turn, outside-fifo, marked, ready, fifo-one}
+use Rattle.world.specs.Machine.{addressed, addressees, in-turn, outside-fifo, marked, ready, fifo-one}
 use Rattle.bounds.specs.Bounds.{Bounds, bounds-state}
 use Rattle.quiescence.specs.Quiescent.{Quiescent}
+use Rattle.masks.specs.Ones.{count-only}
 use Rattle.sends.specs.Sends.{addressed-words, in-turn-words}
 
 -- ---- what the test reads off the words of s is so of s
@@ -66,79 +64,61 @@ quiescent-words s p h hp a m l =
     let low : m < s count = omega (arith, get-encode s count tt) in
     ready-words s h p m hp (omega (arith, h .counts)) ∙ a m low
 
--- ---- the marks that p waits for, in the code's order: those of the trusted processes of a mask that are addressees
-abbrev pub trusted-unmarked : State → ℕ → ℕ → ℕ
-trusted-unmarked s p m = bitAnd (s (trust p)) (bitXor (s (trust p)) (s (marks p m)))
+-- ---- the marks that p waits for: those of the addressees that it trusts
+-- what the answer "p waits for the lowest trusted process without a mark" says: if so, a mark is missing
+abbrev pub Waits : State → ℕ → ℕ → Bool → Type 0
+Waits s p m r = r ≡ true → every (s size) (marked s p m) ≡ false
 
-module _ (s : State) (p m : ℕ) where
-  -- the mark is there of whoever is not of the mask x, and lacks of whoever is of it and an addressee
-  pub record Left (x : ℕ) : Type 0 where
-    pub closed : (q : ℕ) → bit x q ≡ false → marked s p m q ≡ true
-    pub lacking : (q : ℕ) → bit x q ≡ true → marked s p m q ≡ not (addressed s m q)
+module _ (s : State) (p m : ℕ) {t k : ℕ} (et : t ≡ s (trust p)) (ek : k ≡ s (marks p m)) where
+  -- whether q's mark is there, by the two masks
+  marked-masks : (q : ℕ) → either (not (both (bit t q) (addressed s m q))) (bit k q) ≡ marked s p m q
+  marked-masks q = ap₂ (λ (x y : ℕ). either (not (both (bit x q) (addressed s m q))) (bit y q)) et ek
 
-  pub left-first : Left (trusted-unmarked s p m)
-  left-first = record {
-    closed = λ q e. none (bit (s (trust p)) q) (bit (s (marks p m)) q) (addressed s m q) (sym (bits q) ∙ e);
-    lacking = λ q e. some (bit (s (trust p)) q) (bit (s (marks p m)) q) (addressed s m q) (sym (bits q) ∙ e);
-  }
+  pub waits-lowest : {q n : ℕ} {r : Bool} → q ≡ first-from 16 0 (bit (bitAnd t (bitXor t k))) → n ≡ s size
+      → n ≤ 16 → q < n → r ≡ addressed s m q → Waits s p m r
+  waits-lowest {q} eq en h l er e =
+      every-fails (s size) (marked s p m) q (omega (arith, en))
+      (sym (marked-masks q) ∙ lacks (bit t q) (bit k q) (addressed s m q) (sym bits ∙ hit) (sym er ∙ e))
     where
-      bits : (q : ℕ) → bit (trusted-unmarked s p m) q
-          ≡ both (bit (s (trust p)) q) (differs (bit (s (trust p)) q) (bit (s (marks p m)) q))
-      bits q =
-          bit-and (s (trust p)) (bitXor (s (trust p)) (s (marks p m))) q
-          ∙ ap (both (bit (s (trust p)) q)) (bit-xor (s (trust p)) (s (marks p m)) q)
+      hit : bit (bitAnd t (bitXor t k)) q ≡ true
+      hit = ap (bit (bitAnd t (bitXor t k))) eq ∙ first-law 16 0 (bit (bitAnd t (bitXor t k))) .hit (omega (arith, eq))
 
-      none : (t k a : Bool) → both t (differs t k) ≡ false → either (not (both t a)) k ≡ true
-      none true true true e = refl
-      none true true false e = refl
-      none true false a e = clash refl e
-      none false k a e = refl
+      bits : bit (bitAnd t (bitXor t k)) q ≡ both (bit t q) (differs (bit t q) (bit k q))
+      bits = bit-and t (bitXor t k) q ∙ ap (both (bit t q)) (bit-xor t k q)
 
-      some : (t k a : Bool) → both t (differs t k) ≡ true → either (not (both t a)) k ≡ not a
-      some true false true e = refl
-      some true false false e = refl
-      some true true a e = clash e refl
-      some false k a e = clash e refl
+      lacks : (t k a : Bool) → both t (differs t k) ≡ true → a ≡ true → either (not (both t a)) k ≡ false
+      lacks true false a e f = ap (λ (b : Bool). either (not b) false) f
+      lacks true true a e f = clash e refl
+      lacks false k a e f = clash e refl
 
-  -- without one that is no addressee
-  pub left-less : (x q : ℕ) → Left x → bit x q ≡ true → addressed s m q ≡ false → Left (without x q)
-  left-less x q h b e = record {
-    closed = λ r z. go r z (ℕ-discrete q r);
-    lacking = λ r z. h .lacking r (without-old x q r z);
-  }
+  -- the addressees a that p trusts, and those of them of which it has a mark, are as many
+  pub all-marked : {a x y : ℕ} {r : Bool} → s size ≤ 16 → a ≡ addressees s m
+      → x ≡ tally 16 (bit (bitAnd (bitAnd a t) k)) → y ≡ tally 16 (bit (bitAnd a t)) → r ≡ eqb x y
+      → r ≡ every (s size) (marked s p m)
+  all-marked {a} h ea ex ey er =
+      er ∙ ap₂ eqb ex ey ∙ count-only (bitAnd a t) k
+      ∙ same (only 16 (bitAnd a t) (bit k)) (every (s size) (marked s p m))
+      (λ e. every-intro (s size) (marked s p m) (λ q l. there q l (only-e 16 (bitAnd a t) (bit k) e q (omega arith))))
+      (λ e. only-i 16 (bitAnd a t) (bit k) (λ q _ b. has q b (every-true (s size) (marked s p m) e q)))
     where
-      go : (r : ℕ) → bit (without x q) r ≡ false → Dec (q ≡ r) → marked s p m r ≡ true
-      go r z (yes d) = subst (λ (y : ℕ). marked s p m y ≡ true) d (h .lacking q b ∙ ap not e)
-      go r z (no d) = h .closed r (sym (without-other x q r d) ∙ z)
+      there : (q : ℕ) → q < s size → (bit (bitAnd a t) q ≡ true → bit k q ≡ true) → marked s p m q ≡ true
+      there q l f =
+          sym (marked-masks q) ∙ go (bit t q) (addressed s m q) (bit k q)
+          (λ d b. f (bit-and a t q
+          ∙ ap₂ both (ap (λ (x : ℕ). bit x q) ea ∙ bit-mask-of (s size) (addressed s m) q l ∙ d) b))
+        where
+          go : (t a k : Bool) → (a ≡ true → t ≡ true → k ≡ true) → either (not (both t a)) k ≡ true
+          go true true k g = g refl refl
+          go true false k g = refl
+          go false a k g = refl
 
-  -- the lowest of the mask decides, or there is none
-  module _ (x : ℕ) (h : Left x) where
-    pub left-none : x ≡ 0 → true ≡ every (s size) (marked s p m)
-    left-none e =
-        sym (every-intro (s size) (marked s p m)
-        (λ q _. h .closed q (ap (λ (y : ℕ). bit y q) e ∙ bit-zero q)))
-
-    pub left-past : {q n : ℕ} → q ≡ first-from 16 0 (bit x) → n ≡ s size → n ≤ q
-        → true ≡ every (s size) (marked s p m)
-    left-past eq en l =
-        sym (every-intro (s size) (marked s p m)
-        (λ r k. h .closed r (first-law 16 0 (bit x) .miss r (omega arith) (omega (arith, eq, en)))))
-
-    pub left-hit : {q : ℕ} → q ≡ first-from 16 0 (bit x) → q < 16 → bit x q ≡ true
-    left-hit eq l =
-        ap (bit x) eq ∙ first-law 16 0 (bit x) .hit (omega (arith, eq))
-
-    pub left-lacks : {q n : ℕ} → q ≡ first-from 16 0 (bit x) → n ≡ s size → q < n → q < 16
-        → addressed s m q ≡ true → false ≡ every (s size) (marked s p m)
-    left-lacks {q} eq en l l′ e =
-        sym (every-fails (s size) (marked s p m) q (omega (arith, en)) (h .lacking q (left-hit eq l′) ∙ ap not e))
-
--- the mask gets smaller
-pub without-less : (x q : ℕ) → bit x q ≡ true → x ≢ 0 → without x q < x
-unfolding without
-without-less x q b n =
-    let z = pow-pos q in
-    rw b (omega (arith, z))
+      has : (q : ℕ) → bit (bitAnd a t) q ≡ true → (q < s size → marked s p m q ≡ true) → bit k q ≡ true
+      has q b f =
+          let d = sym (bit-and a t q) ∙ b in
+          let i = mask-of-member (s size) (addressed s m) q
+          (ap (λ (x : ℕ). bit x q) (sym ea) ∙ both-l (bit a q) (bit t q) d) in
+          sym (ap₂ (λ (x y : Bool). either (not (both x y)) (bit k q)) (both-r (bit a q) (bit t q) d) (i .1))
+          ∙ marked-masks q ∙ f (i .0)
 
 -- ---- the four tests
 none : (a b c d : Bool) → both (both a b) c ≡ false → false ≡ both (both (both a b) c) d

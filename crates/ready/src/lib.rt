@@ -3,39 +3,51 @@ ghost use mathlib.Core.Path.{_≡_};
 ghost use Prim.Native.Nat.{_<_};
 ghost use lib.ListN.{length};
 ghost use Rattle.base.specs.Search.{every};
-ghost use Rattle.world.specs.World.{size, view, Reads};
+ghost use Rattle.world.specs.World.{size, trust, marks, view, Reads};
 ghost use Rattle.world.specs.Machine.{marked, ready};
 ghost use Rattle.bounds.specs.Bounds.{Bounds};
-ghost use Rattle.ready.specs.Ready.{trusted-unmarked, lowest};
+ghost use Rattle.ready.specs.Ready.{Waits, lowest};
 
-// The processes that p trusts and whose mark for message m it lacks.
-fn unmarked(w: &[u16], p: usize, m: usize) -> u16
-    requires { ⌜ (length (now w) ≡ 20480) × (p < 16) × (m < 64) ⌝ }
-    ensures { λ r. ⌜ r ≡ trusted-unmarked (view (now (w .entry))) p m ⌝ }
+// The processes that p trusts.
+fn trusted(w: &[u16], p: usize) -> u16
+    requires { ⌜ (length (now w) ≡ 20480) × (p < 16) ⌝ }
+    ensures { λ r. ⌜ r ≡ view (now (w .entry)) (trust p) ⌝ }
 {
-    let t = w[cells::PROCESSES + p * cells::PROCESS + cells::TRUST];
-    let k = w[cells::PROCESSES + p * cells::PROCESS + cells::MARKS + m];
-    t & (t ^ k)
+    w[cells::PROCESSES + p * cells::PROCESS + cells::TRUST]
 }
 
-// Whether p waits for no mark for message m: none of these is an addressee.
-pub fn marked_all(w: &[u16], p: usize, m: usize) -> bool
+// The processes of which p has a mark for message m.
+fn marks_of(w: &[u16], p: usize, m: usize) -> u16
+    requires { ⌜ (length (now w) ≡ 20480) × (p < 16) × (m < 64) ⌝ }
+    ensures { λ r. ⌜ r ≡ view (now (w .entry)) (marks p m) ⌝ }
+{
+    w[cells::PROCESSES + p * cells::PROCESS + cells::MARKS + m]
+}
+
+// Whether the lowest process that p trusts and has no mark of for message m is an addressee. If so, p waits for it.
+fn waits_for_lowest(w: &[u16], p: usize, m: usize) -> bool
+    requires { ⌜ (length (now w) ≡ 20480) × (p < 16) × (m < 64) × Bounds (view (now w)) ⌝ }
+    ensures { λ r. ⌜ Waits (view (now (w .entry))) p m r ⌝ }
+{
+    let t = trusted(w, p);
+    let q = masks::lowest(t & (t ^ marks_of(w, p, m))) as usize;
+    if q < cells::word(w, cells::SIZE) {
+        return sends::is_addressed(w, m, q);
+    }
+    false
+}
+
+// Whether p waits for no mark for message m. The addressees that it trusts are counted, and those of them of which it
+// has a mark: these must be as many.
+fn marked_all(w: &[u16], p: usize, m: usize) -> bool
     requires { ⌜ (length (now w) ≡ 20480) × (p < 16) × (m < 64) × Bounds (view (now w)) ⌝ }
     ensures { λ r. ⌜ r ≡ every (view (now (w .entry)) size) (marked (view (now (w .entry))) p m) ⌝ }
 {
-    let n = cells::word(w, cells::SIZE);
-    let mut left = unmarked(w, p, m);
-    while left != 0 {
-        let q = masks::lowest(left) as usize;
-        if n <= q {
-            return true;
-        }
-        if sends::is_addressed(w, m, q) {
-            return false;
-        }
-        left = masks::clear(left, q);
+    if waits_for_lowest(w, p, m) {
+        return false;
     }
-    true
+    let a = sends::addressees_of(w, m) & trusted(w, p);
+    masks::count(a & marks_of(w, p, m)) == masks::count(a)
 }
 
 // Whether p can deliver message m in FIFO order.
