@@ -1,17 +1,16 @@
 -- An arrival on words: its parts one after the other, and when its cascade has nothing to do. Assumes nothing.
 use mathlib.Core.Path.{_≡_, refl, sym, _∙_}
-use mathlib.Core.Bool.{Bool, true, false, not, _&&_}
+use mathlib.Core.Bool.{Bool, true, false}
 use mathlib.Core.List.{List}
 use Prim.Native.Nat.{ℕ}
 use lib.Dec.{eqb}
-use borrow.Author.Tests.{not-true}
 use lib.ListN.{length}
 use Rattle.base.specs.Tests.{clash}
 use Rattle.world.specs.World.{held, State, encode, view, Changes}
 use Rattle.world.specs.Layout.{encode-view}
 use Rattle.world.specs.Machine.{ready, leave, mark, hold, arrival}
 use Rattle.keeps.specs.Cascade.{received}
-use Rattle.quiescence.specs.Quiescent.{QuiescentIf, MarkOnly, cascade-none, received-quiescent}
+use Rattle.quiescence.specs.Quiescent.{Quiescent, QuiescentIf, MarkOnly, cascade-none, received-quiescent}
 use Rattle.receiving.specs.Receiving.{hold-held}
 
 -- ---- the parts one after the other
@@ -22,13 +21,15 @@ pub received-law : (w u1 u2 u3 : List ℕ) (k m q p : ℕ) → length w ≡ 2048
     → u3 ≡ encode (received (view w) k m q p)
 received-law w u1 u2 u3 k m q p l c1 c2 c3 = c3 _ (c2 _ (c1 (view w) (sym (encode-view w l))))
 
--- a cascade that has nothing to do
-pub over-law : (s : State) (k m q p : ℕ) (b : Bool) → QuiescentIf b s p
-    → true ≡ (b && not (ready (received s k m q p) p m)) → arrival s k m q p ≡ received s k m q p
+-- at a quiescent process the cascade has nothing to do if m is not ready; and only m may be
+pub over-law : (s : State) (k m q p : ℕ) → Quiescent s p → ready (received s k m q p) p m ≡ false
+    → arrival s k m q p ≡ received s k m q p
 unfolding arrival
-over-law s k m q p true h e =
-    cascade-none (received s k m q p) p (received-quiescent k m q p s h (not-true _ (sym e)))
-over-law s k m q p false h e = clash refl e
+over-law s k m q p h e = cascade-none (received s k m q p) p (received-quiescent k m q p s h e)
+
+pub is-quiescent : (b : Bool) (s : State) (p : ℕ) → b ≡ true → QuiescentIf b s p → Quiescent s p
+is-quiescent true s p e h = h
+is-quiescent false s p e h = clash e refl
 
 -- only a mark was set
 pub mark-only : (s : State) (k m q p : ℕ) (b : Bool)

@@ -90,17 +90,17 @@ module _ (p : ℕ) (s : State) (m : ℕ) (h : Bounds s) (hp : p < 16) (hm : m < 
   bounds-next q hq = bounds-raised delivered-all p q (next-room q hq) bounds-delivered
 
   -- after the OKs
-  bounds-fifo : Bounds (fifo-one s p m)
+  pub bounds-fifo : Bounds (fifo-one s p m)
   unfolding fifo-one
   bounds-fifo = bounds-oks p (s (sender m)) _ _ (bounds-next (s (sender m)) (h .senders m hm))
 
-  counted-fifo : fifo-one s p m count ≡ s count
+  pub counted-fifo : fifo-one s p m count ≡ s count
   unfolding fifo-one raised-next causal-one merge with-tables appended put
   counted-fifo =
       oks-keep p (s (sender m)) (λ t. t count ≡ s count) (λ t x e. e) _ _
       (causal-stands p (appended s p m) count (λ t i. refl))
 
-  longer-fifo : fifo-one s p m (fifo-length p) ≡ s (fifo-length p) + 1
+  pub longer-fifo : fifo-one s p m (fifo-length p) ≡ s (fifo-length p) + 1
   unfolding fifo-one raised-next put
   longer-fifo =
       oks-keep p (s (sender m)) (λ t. t (fifo-length p) ≡ s (fifo-length p) + 1) (λ t x e. e) _ _

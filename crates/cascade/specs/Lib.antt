@@ -1,1 +1,2 @@
 pub mod Cascade
+pub mod Turn

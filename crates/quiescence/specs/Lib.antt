@@ -1,2 +1,3 @@
 pub mod Quiescent
 pub mod Steps
+pub mod Turn

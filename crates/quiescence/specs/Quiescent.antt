@@ -25,6 +25,10 @@ use Rattle.keeps.specs.Cascade.{received, received-sound}
 abbrev pub Quiescent : State → ℕ → Type 0
 Quiescent s p = (m : ℕ) → m < s count → ready s p m ≡ false
 
+-- of all messages, only m may be ready at p
+abbrev pub OnlyReady : State → ℕ → ℕ → Type 0
+OnlyReady s p m = (x : ℕ) → x < s count → m ≢ x → ready s p x ≡ false
+
 -- ---- the words that tell whether m is ready at p
 abbrev pub Tested : ℕ → ℕ → Cell → Type 0
 Tested p m size = Unit {0}
@@ -113,7 +117,7 @@ module _ (p : ℕ) where
   causal-one-fixed t i c (a-number m g) = refl
   causal-one-fixed t i c (a-letter m k q d) = refl
 
-  causal-all-fixed : (t : State) (c : Cell) → Fixed p c → causal-all t p c ≡ t c
+  pub causal-all-fixed : (t : State) (c : Cell) → Fixed p c → causal-all t p c ≡ t c
   unfolding causal-all
   causal-all-fixed t c k =
       loop-keeps (λ u. u (fifo-length p)) (λ u. deliverable-at u p) (λ u. causal-one u p) (λ u. u c ≡ t c)
@@ -281,16 +285,19 @@ module _ (k m q p : ℕ) where
       (λ t j v. put-same-test r x (put t (held p m) 1) (flight m j p) v (λ z. z) c y
       ∙ put-same-test r x t (held p m) 1 (not-it r x o) c y)
 
-  -- so if p was quiescent and m is not ready, p still is
+  -- so if p was quiescent, only m may be ready at it, and if m is not, p still is quiescent
+  pub received-only : (s : State) → Quiescent s p → OnlyReady (received s k m q p) p m
+  received-only s h x l d =
+      ready-same p x s (received s k m q p) (received-same s p x (inr d))
+      ∙ h x (omega (arith, received-count s))
+
   pub received-quiescent : (s : State) → Quiescent s p → ready (received s k m q p) p m ≡ false
       → Quiescent (received s k m q p) p
   received-quiescent s h e x l = go (ℕ-discrete m x)
     where
       go : Dec (m ≡ x) → ready (received s k m q p) p x ≡ false
       go (yes d) = ap (ready (received s k m q p) p) (sym d) ∙ e
-      go (no d) =
-          ready-same p x s (received s k m q p) (received-same s p x (inr d))
-          ∙ h x (omega (arith, received-count s))
+      go (no d) = received-only s h x l d
 
   -- and every other process is as quiescent as it was
   pub received-others : (s : State) (r : ℕ) → p ≢ r → Quiescent s r → Quiescent (received s k m q p) r

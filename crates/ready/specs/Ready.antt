@@ -13,10 +13,10 @@ use Rattle.base.specs.Search.{every, every-true, every-intro, every-fails, ever
 use Rattle.base.specs.Count.{tally, absent}
 use Rattle.base.specs.Loop.{chosen}
 use Rattle.world.specs.World.{size, count, trust, fifo-length, held, marks, fifo, State, encode, view, Reads}
-use Rattle.world.specs.Layout.{get-encode}
+use Rattle.world.specs.Layout.{get-encode, reads-cell}
 use Rattle.world.specs.Machine.{addressed, addressees, in-turn, outside-fifo, marked, ready, fifo-one}
 use Rattle.bounds.specs.Bounds.{Bounds, bounds-state}
-use Rattle.quiescence.specs.Quiescent.{Quiescent}
+use Rattle.quiescence.specs.Quiescent.{Quiescent, OnlyReady}
 use Rattle.masks.specs.Ones.{count-only}
 use Rattle.sends.specs.Sends.{addressed-words, in-turn-words}
 
@@ -58,11 +58,23 @@ pub ready-law : (w : List ℕ) (p m : ℕ) {r : Bool} → Bounds (view w) → p 
 ready-law w p m h hp hm q s e =
     q ∙ ap (λ (x : List ℕ). ready (view x) p m) e ∙ ready-words s (bounds-state w s e h) p m hp hm
 
--- ---- a process that is quiescent in s is so in the words of s
+-- ---- what is ready in s is so in the words of s: a process is quiescent in both, or has only m ready
 pub quiescent-words : (s : State) (p : ℕ) → Bounds s → p < 16 → Quiescent s p → Quiescent (view (encode s)) p
 quiescent-words s p h hp a m l =
     let low : m < s count = omega (arith, get-encode s count tt) in
     ready-words s h p m hp (omega (arith, h .counts)) ∙ a m low
+
+pub only-words : (s : State) (p m : ℕ) → Bounds s → p < 16 → OnlyReady s p m → OnlyReady (view (encode s)) p m
+only-words s p m h hp a x l d =
+    let low : x < s count = omega (arith, get-encode s count tt) in
+    ready-words s h p x hp (omega (arith, h .counts)) ∙ a x low d
+
+pub only-state : (w : List ℕ) (s : State) (p m : ℕ) → w ≡ encode s → Bounds (view w) → p < 16 → OnlyReady (view w) p m
+    → OnlyReady s p m
+only-state w s p m e h hp a x l d =
+    let b = bounds-state w s e h in
+    let low : x < view w count = omega (arith, reads-cell w count tt s e) in
+    sym (ap (λ (y : List ℕ). ready (view y) p x) e ∙ ready-words s b p x hp (omega (arith, b .counts))) ∙ a x low d
 
 -- ---- the marks that p waits for: those of the addressees that it trusts
 -- what the answer "p waits for the lowest trusted process without a mark" says: if so, a mark is missing

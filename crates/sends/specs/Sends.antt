@@ -10,7 +10,9 @@ use lib.Dec.{eqb}
 use borrow.Author.Tests.{eq-eqb, ne-eqb}
 use lib.ListN.{set}
 use Rattle.base.specs.Bits.{bit, with, mask-of, mask-of-cong}
-use Rattle.base.specs.Tests.{pick, both}
+use Rattle.base.specs.Tests.{pick, both, either}
+use Rattle.base.specs.Search.{some}
+use Rattle.ranges.specs.Laws.{some-none, some-next}
 use Rattle.world.specs.World.{size, group, next, held, sender, mask, number, flight, addr, State, put, encode, view, Reads, Changes}
 use Rattle.world.specs.Layout.{get-encode, set-encode}
 use Rattle.world.specs.Machine.{addressed, addressees, in-turn, due, send-ok, send-oks}
@@ -65,6 +67,10 @@ due-state : (w : List ℕ) (p q m : ℕ) {b : Bool} → Bounds (view w) → p < 
 due-state w p q m h hp hm d s e =
     sym (ap (λ (x : List ℕ). due (view x) p q m) e ∙ due-words s (bounds-state w s e h) p q m hp hm) ∙ d
 
+pub due-law : (w : List ℕ) (p q m : ℕ) {b : Bool} → Bounds (view w) → p < 16 → m < 64 → b ≡ due (view w) p q m
+    → Reads w b (λ s. due s p q m)
+due-law w p q m h hp hm d s e = sym (due-state w p q m h hp hm (sym d) s e)
+
 -- ---- the tests, in the code's order
 pub in-turn-is : (s : State) (p m : ℕ) {g q x y : ℕ} {r : Bool} → g ≡ s (group p) → q ≡ s (sender m)
     → x ≡ s (number m g) → y ≡ s (next p q) → r ≡ eqb x y → r ≡ in-turn s p m
@@ -77,13 +83,18 @@ due-not-held s p q m ex n =
     sym (ap (λ (b : Bool). both (both b (eqb (s (sender m)) q)) (in-turn s p m))
     (ne-eqb (s (held p m)) 1 (λ z. n (ex ∙ z))))
 
-pub due-not-from : (s : State) (p q m : ℕ) {x y : ℕ} → x ≡ s (held p m) → x ≡ 1 → y ≡ s (sender m)
-    → (y ≡ q → ⊥)
-    → false ≡ due s p q m
+pub due-not-from : (s : State) (p q m : ℕ) {y : ℕ} → y ≡ s (sender m) → (y ≡ q → ⊥) → false ≡ due s p q m
 unfolding due
-due-not-from s p q m ex h ey n =
-    sym (ap₂ (λ (a b : Bool). both (both a b) (in-turn s p m)) (eq-eqb (s (held p m)) 1 (sym ex ∙ h))
-    (ne-eqb (s (sender m)) q (λ z. n (ey ∙ z))))
+due-not-from s p q m ey n =
+    sym (ap (λ (b : Bool). both (both is-held b) (in-turn s p m)) (ne-eqb (s (sender m)) q (λ z. n (ey ∙ z)))
+    ∙ go is-held)
+  where
+    is-held : Bool
+    is-held = eqb (s (held p m)) 1
+
+    go : (a : Bool) → both (both a false) (in-turn s p m) ≡ false
+    go true = refl
+    go false = refl
 
 pub due-is : (s : State) (p q m : ℕ) {x y : ℕ} {r : Bool} → x ≡ s (held p m) → x ≡ 1 → y ≡ s (sender m)
     → y ≡ q
@@ -130,6 +141,11 @@ pub bounds-oks : (p q k : ℕ) (s : State) → Bounds s → Bounds (send-oks s p
 unfolding put
 bounds-oks p q k s h = oks-keep p q (λ t. Bounds t) (λ t m z. z) k s h
 
+-- they change nothing that tells whether one is owed
+oks-due : (p q k x : ℕ) (s : State) → due (send-oks s p q k) p q x ≡ due s p q x
+unfolding due put
+oks-due p q k x s = oks-keep p q (λ t. due t p q x ≡ due s p q x) (λ t m z. z) k s refl
+
 -- ---- the loop over the messages
 pub oks-start : (p q : ℕ) (s : State) → send-oks s p q 0 ≡ s
 unfolding send-oks
@@ -138,3 +154,11 @@ oks-start p q s = refl
 pub oks-more : (p q k : ℕ) (s : State) → send-ok (send-oks s p q k) p q k ≡ send-oks s p q (k + 1)
 unfolding send-oks
 oks-more p q k s = sym (ap (send-oks s p q) (add-one k))
+
+-- whether one of the first k was owed
+pub owed-start : (p q : ℕ) (s : State) → false ≡ some 0 (due s p q)
+owed-start p q s = sym (some-none (due s p q))
+
+pub owed-more : (p q k : ℕ) (s : State) {a b : Bool} → a ≡ some k (due s p q) → b ≡ due (send-oks s p q k) p q k
+    → either a b ≡ some (k + 1) (due s p q)
+owed-more p q k s ea eb = ap₂ either ea (eb ∙ oks-due p q k k s) ∙ sym (some-next (due s p q) k)

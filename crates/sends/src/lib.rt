@@ -4,6 +4,7 @@ ghost use Prim.Native.Nat.{_+_, _<_};
 ghost use lib.ListN.{length};
 ghost use Rattle.base.specs.Bits.{with};
 ghost use Rattle.base.specs.Tests.{pick};
+ghost use Rattle.base.specs.Search.{some};
 ghost use Rattle.world.specs.Machine.{addressed, addressees, in-turn, due, send-ok, send-oks};
 ghost use Rattle.world.specs.World.{Reads, Changes, view, count};
 ghost use Rattle.sends.specs.Sends.{sent};
@@ -63,10 +64,10 @@ pub fn is_due(w: &[u16], p: usize, q: usize, m: usize) -> bool
     requires { ⌜ (length (now w) ≡ 20480) × (p < 16) × (m < 64) × Bounds (view (now w)) ⌝ }
     ensures { λ r. ⌜ r ≡ due (view (now (w .entry))) p q m ⌝ }
 {
-    if cells::word(w, cells::PROCESSES + p * cells::PROCESS + cells::HELD + m) != 1 {
+    if cells::word(w, cells::MESSAGES + m * cells::MESSAGE) != q {
         return false;
     }
-    if cells::word(w, cells::MESSAGES + m * cells::MESSAGE) != q {
+    if cells::word(w, cells::PROCESSES + p * cells::PROCESS + cells::HELD + m) != 1 {
         return false;
     }
     in_turn(w, p, m)
@@ -81,25 +82,31 @@ pub fn send(w: &mut [u16], p: usize, m: usize, k: usize)
     w[cells::MESSAGES + m * cells::MESSAGE + cells::FLIGHT + (k * 16 + p)] = a;
 }
 
-// Sends the OK for message m of q, if p owes it.
-pub fn send_ok(w: &mut [u16], p: usize, q: usize, m: usize)
+// Sends the OK for message m of q, if p owes it; whether it did.
+pub fn send_ok(w: &mut [u16], p: usize, q: usize, m: usize) -> bool
     requires { ⌜ (length (now w) ≡ 20480) × (p < 16) × (m < 64) × Bounds (view (now w)) ⌝ }
-    ensures { λ _. ⌜ (length (now (w .exit)) ≡ 20480) × Changes (now (w .entry)) (now (w .exit)) (λ s. send-ok s p q m) ⌝ }
+    ensures sent { λ r. ⌜ Reads (now (w .entry)) r (λ s. due s p q m) ⌝ }
+    ensures words { λ _. ⌜ (length (now (w .exit)) ≡ 20480) × Changes (now (w .entry)) (now (w .exit)) (λ s. send-ok s p q m) ⌝ }
 {
     if is_due(w, p, q, m) {
         send(w, p, m, 2);
+        return true;
     }
+    false
 }
 
-// Sends the OK for each message of q for which p owes it.
-pub fn send_oks(w: &mut [u16], p: usize, q: usize)
+// Sends the OK for each message of q for which p owes it; whether there was one.
+pub fn send_oks(w: &mut [u16], p: usize, q: usize) -> bool
     requires { ⌜ (length (now w) ≡ 20480) × (p < 16) × Bounds (view (now w)) ⌝ }
-    ensures { λ _. ⌜ (length (now (w .exit)) ≡ 20480) × Changes (now (w .entry)) (now (w .exit)) (λ s. send-oks s p q (s count)) ⌝ }
+    ensures sent { λ r. ⌜ Reads (now (w .entry)) r (λ s. some (s count) (due s p q)) ⌝ }
+    ensures words { λ _. ⌜ (length (now (w .exit)) ≡ 20480) × Changes (now (w .entry)) (now (w .exit)) (λ s. send-oks s p q (s count)) ⌝ }
 {
     let n = cells::word(w, cells::COUNT);
+    let mut any = false;
     let mut k: usize = 0;
     while k < n {
-        send_ok(w, p, q, k);
+        any = any | send_ok(w, p, q, k);
         k += 1;
     }
+    any
 }

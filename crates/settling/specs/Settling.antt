@@ -8,7 +8,7 @@ use Prim.Native.Nat.{ℕ, zero, suc, _+_, _-_, _≤_, _<_}
 use native.Mathlib.Omega.{arith}
 use Rattle.base.specs.Tests.{clash}
 use Rattle.base.specs.Bits.{bit, with, mask-of, bit-zero, with-cases}
-use Rattle.world.specs.World.{size, State, encode, view}
+use Rattle.world.specs.World.{size, count, State, encode, view}
 use Rattle.world.specs.SoundLaws.{size-high, count-high, sound-words}
 use Rattle.world.specs.Layout.{length-encode, get-encode}
 use Rattle.world.specs.Steps.{arrives, step, is-up}
@@ -81,7 +81,7 @@ rested-known mask s p false h l e = tt
 -- ---- a sound world
 -- the lowest letter is one of the world's
 pub letter-within : (w : List ℕ) (k m q p : ℕ) → SoundWords w → lowest (view w) ≡ letter k m q p
-    → (k < 3) × (m < 64) × (q < 16) × (p < 16)
+    → (k < 3) × (m < 64) × (q < 16) × (p < 16) × (m < view w count)
 letter-within w k m q p h e =
     let a = lowest-moves (view w) k m q p e .letter in (
       a .kind,
@@ -89,6 +89,7 @@ letter-within w k m q p h e =
       omega
           (arith, a .from, size-high (view w) (h .reads)),
       omega (arith, a .to, size-high (view w) (h .reads)),
+      a .message,
     )
 
 -- and after its arrival the world is sound

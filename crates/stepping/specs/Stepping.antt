@@ -66,12 +66,12 @@ module _ (w : List ℕ) (l : length w ≡ 20480) (h : Sound (view w)) where
       (l, k, a .room, sound-bounds s h, sound-low s p k h)
 
   pub can-arrive : (k m q p : ℕ) (b : Bool) → AllQuiescentIf b s → refusal s (arrives k m q p) ≡ 0
-      → (length w ≡ 20480) × (k < 3) × (m < 64) × (q < 16) × (p < 16) × Bounds s × QuiescentIf b s p
+      → (length w ≡ 20480) × (k < 3) × (m < 64) × (q < 16) × (p < 16) × Bounds s × QuiescentIf b s p × (m < s count)
   can-arrive k m q p b all e =
       let a = accepted-arrival s k m q p (eq-eqb _ 0 e) .letter in
       let x : m < 64 = omega (arith, a .message, count-high s h) in
       let z : p < 16 = process p (a .to) in
-      (l, a .kind, x, process q (a .from), z, sound-bounds s h, one-of-all b s p z all)
+      (l, a .kind, x, process q (a .from), z, sound-bounds s h, one-of-all b s p z all, a .message)
 
   pub can-lose : (k m q p : ℕ) → refusal s (loses k m q p) ≡ 0
       → (length w ≡ 20480) × (k < 3) × (m < 64) × (q < 16) × (p < 16)

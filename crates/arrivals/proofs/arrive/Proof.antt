@@ -1,13 +1,19 @@
 -- `arrivals::arrive` meets its contract. Assumes nothing.
-use mathlib.Core.Path.{_≡_, sym, ap, _∙_}
+use mathlib.Core.List.{List}
+use mathlib.Core.Path.{_≡_, sym, ap, _∙_, subst}
+use Prim.Native.Nat.{ℕ}
+use native.Mathlib.Omega.{arith}
 use borrow.Author.Needs.{needs}
-use Rattle.world.specs.Layout.{encode-view}
+use borrow.Author.Tests.{not-true, not-false}
+use Rattle.world.specs.Layout.{encode-view, reads-cell}
 use Rattle.world.specs.Machine.{leave, mark, arrival}
-use Rattle.world.specs.World.{State, encode, view}
+use Rattle.world.specs.World.{count, State, encode, view}
 use Rattle.bounds.specs.Bounds.{Bounds, bounds-words}
 use Rattle.keeps.specs.Cascade.{received}
 use Rattle.receiving.specs.Receiving.{bounds-marked, bounds-hold}
-use Rattle.arrivals.specs.Arrival.{received-law, over-law, mark-only}
+use Rattle.quiescence.specs.Quiescent.{Quiescent, OnlyReady, received-count, received-only}
+use Rattle.ready.specs.Ready.{only-words}
+use Rattle.arrivals.specs.Arrival.{received-law, is-quiescent, over-law, mark-only}
 use Rattle.arrivals.proofs.arrive.Statement.{statement}
 use Rattle.arrivals.proofs.arrive.Tie as tie
 
@@ -73,14 +79,39 @@ received-bounds c =
     bounds-words (c .take-hold .last .0) (received-from c) (received-words c)
     (bounds-hold (held-from r) (a .p) (a .m) (marked-bounds r))
 
-is-over-requires : tie.Need-is-over-requires
-is-over-requires c κs =
-    let o = c .before .before .before in
-    let b = o .before .before .before .before .before .before .before .before .before .before .before in
-    (o .take-hold .ensures .1 .0, b .pre .2, b .pre .4, received-bounds o)
+cascade-all-requires : tie.Need-cascade-all-requires
+cascade-all-requires c κs =
+    let h = c .before .before .before .before in
+    let b = h .before .before .before .before .before .before .before .before .before .before .before in
+    (h .take-hold .ensures .1 .0, b .pre .4, received-bounds h)
 
 same-length : tie.Need-same-length
 same-length c = search needs
+
+returns : tie.Need-returns
+unfolding received-from arrival
+returns c =
+    let o = c .before .before in
+    let h = o .before .before .before .before .before in
+    (tt, o .cascade-all .ensures .1 (received-from h) (received-words h))
+
+is-ready-requires : tie.Need-is-ready-requires
+is-ready-requires c κs =
+    let h = c .before .before .before .before in
+    let b = h .before .before .before .before .before .before .before .before .before .before .before in
+    (h .take-hold .ensures .1 .0, b .pre .4, b .pre .2, received-bounds h)
+
+same-length-2 : tie.Need-same-length-2
+same-length-2 c = search needs
+
+-- p was quiescent
+quiet : (c : tie.Else1)
+    → let a = c .before .before .before .before .before .before .before .before .before .before .before .before .before .before .args in
+    Quiescent (view (a .w .now)) (a .p)
+quiet c =
+    let b = c .before .before .before .before .before .before .before .before .before .before .before .before .before .before in
+    let a = b .args in
+    is-quiescent (a .quiescent) (view (a .w .now)) (a .p) (not-false (a .quiescent) (c .if1 .left)) (b .pre .6)
 
 -- nothing is left for the cascade
 arrived-to : (c : tie.After-take-hold) → State
@@ -88,21 +119,21 @@ arrived-to c =
     let a = c .before .before .before .before .before .before .before .before .before .before .before .args in
     arrival (view (a .w .now)) (a .k) (a .m) (a .q) (a .p)
 
-over : (c : tie.Then1)
-    → arrived-to (c .before .before .before .before .before)
-    ≡ received-from (c .before .before .before .before .before)
+over : (c : tie.Then2)
+    → arrived-to (c .before .before .before .before .before .before)
+    ≡ received-from (c .before .before .before .before .before .before)
 unfolding received-from arrived-to
 over c =
-    let h = c .before .before .before .before .before in
-    let b = h .before .before .before .before .before .before .before .before .before .before .before in
-    let a = b .args in
-    over-law (view (a .w .now)) (a .k) (a .m) (a .q) (a .p) (a .quiescent) (b .pre .6)
-    (sym (c .if1 .taken) ∙ c .before .is-over .ensures (received-from h) (received-words h))
+    let r = c .before in
+    let h = r .before .before .before .before .before in
+    let a = h .before .before .before .before .before .before .before .before .before .before .before .args in
+    over-law (view (a .w .now)) (a .k) (a .m) (a .q) (a .p) (quiet (r .before .before))
+    (sym (r .is-ready .ensures (received-from h) (received-words h)) ∙ not-true (r .is-ready .result) (c .if2 .taken))
 
-returns : tie.Need-returns
+returns-2 : tie.Need-returns-2
 unfolding held-from received-from arrived-to
-returns c =
-    let h = c .before .before .before .before .before in
+returns-2 c =
+    let h = c .before .before .before .before .before .before in
     let m = h .before .before .before .before in
     let a = m .before .before .before .before .before .before .before .args in (
       mark-only (view (a .w .now)) (a .k) (a .m) (a .q) (a .p) (h .take-hold .result)
@@ -111,21 +142,40 @@ returns c =
       received-words h ∙ ap encode (sym (over c)),
     )
 
-cascade-all-requires : tie.Need-cascade-all-requires
-cascade-all-requires c κs =
-    let o = c .before .before .before .before .before .before in
-    let b = o .before .before .before .before .before .before .before .before .before .before .before in
-    (o .take-hold .ensures .1 .0, b .pre .4, received-bounds o)
+cascade-one-requires : tie.Need-cascade-one-requires
+unfolding received-from held-from
+cascade-one-requires c κs =
+    let r = c .before .before in
+    let h = r .before .before .before .before .before in
+    let m = h .before .before .before .before in
+    let b = h .before .before .before .before .before .before .before .before .before .before .before in
+    let a = b .args in
+    let v = view (a .w .now) in (
+      h .take-hold .ensures .1 .0,
+      b .pre .4,
+      received-bounds h,
+      omega (
+        arith,
+        reads-cell (h .take-hold .last .0) count tt (received-from h) (received-words h),
+        received-count (a .k) (a .m) (a .q) (a .p) v,
+        b .pre .7,
+      ),
+      subst (λ (u : List ℕ). OnlyReady (view u) (a .p) (a .m)) (sym (received-words h))
+          (only-words (received-from h) (a .p) (a .m) (bounds-hold (held-from m) (a .p) (a .m) (marked-bounds m)) (b .pre .4)
+          (received-only (a .k) (a .m) (a .q) (a .p) v (quiet (r .before .before)))),
+      sym (r .is-ready .ensures (view (h .take-hold .last .0)) (sym (encode-view _ (h .take-hold .ensures .1 .0))))
+          ∙ not-false (r .is-ready .result) (c .before .if2 .left),
+    )
 
-same-length-2 : tie.Need-same-length-2
-same-length-2 c = search needs
+same-length-3 : tie.Need-same-length-3
+same-length-3 c = search needs
 
-returns-2 : tie.Need-returns-2
+returns-3 : tie.Need-returns-3
 unfolding received-from arrival
-returns-2 c =
+returns-3 c =
     let o = c .before .before in
-    let h = o .before .before .before .before .before .before .before in
-    (tt, o .cascade-all .ensures .1 (received-from h) (received-words h))
+    let h = o .before .before .before .before .before .before .before .before in
+    (tt, o .cascade-one .ensures .1 (received-from h) (received-words h))
 
 pub arrive-spec : {M : Type 1} → statement M
 arrive-spec =
@@ -134,9 +184,12 @@ arrive-spec =
     take-out-requires
     set-mark-requires
     take-hold-requires
-    is-over-requires
+    cascade-all-requires
     same-length
     returns
-    cascade-all-requires
+    is-ready-requires
     same-length-2
-    returns-2)
+    returns-2
+    cascade-one-requires
+    same-length-3
+    returns-3)

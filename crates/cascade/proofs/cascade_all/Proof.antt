@@ -117,11 +117,11 @@ loop-again c =
     let a = o .before .before .before .before .before .before in
     let b = a .before .before .before .before .before .before in
     let p = b .args .p in (
-      o .fifo-one .ensures .0,
+      o .fifo-one .ensures .1 .0,
       λ s e. let t = a .loop .inv .1 s e in
           cascading-more p s (b .pre .1) t (o .before .before .before .before .before .loop-test .taken)
           (o .before .before .if1 .left) (o .before .before .before .first-ready .ensures (t .state)
-          (t .words)) (o .fifo-one .ensures .1),
+          (t .words)) (o .fifo-one .ensures .1 .1),
     )
 
 same-length-2 : tie.Need-same-length-2 Inv-loop μ-loop

@@ -8,6 +8,7 @@ use Rattle.world.specs.Machine.{appended, causal-all}
 use Rattle.world.specs.World.{State, encode, view, next}
 use Rattle.bounds.specs.Bounds.{Bounds, bounds-words}
 use Rattle.cascade.specs.Cascade.{fifo-law, bounds-appended, bounds-delivered, bounds-next, next-room}
+use Rattle.cascade.specs.Turn.{owes-law}
 use Rattle.cascade.proofs.fifo_one.Statement.{statement}
 use Rattle.cascade.proofs.fifo_one.Tie as tie
 
@@ -101,10 +102,14 @@ returns c =
     let o2 = o3 .before .before .before .before in
     let o1 = o2 .before .before .before .before in
     let b = o1 .before .before .before .before .before in (
-      o4 .send-oks .ensures .0,
-      fifo-law (b .args .w .now) _ _ _ _ (b .args .p) (b .args .m) (b .pre .2)
-          (o1 .before .before .word .ensures) (o1 .append .ensures .1) (o2 .causal-all .ensures .1)
-          (o3 .raise-next .ensures .1) (o4 .send-oks .ensures .1),
+      owes-law (b .args .w .now) _ _ _ (b .args .p) (b .args .m) (b .pre .2) (o1 .before .before .word .ensures)
+          (o1 .append .ensures .1) (o2 .causal-all .ensures .1) (o3 .raise-next .ensures .1) (o4 .send-oks .ensures .0),
+      (
+        o4 .send-oks .ensures .1 .0,
+        fifo-law (b .args .w .now) _ _ _ _ (b .args .p) (b .args .m) (b .pre .2)
+            (o1 .before .before .word .ensures) (o1 .append .ensures .1) (o2 .causal-all .ensures .1)
+            (o3 .raise-next .ensures .1) (o4 .send-oks .ensures .1 .1),
+      ),
     )
 
 pub fifo-one-spec : {M : Type 1} → statement M

@@ -12,22 +12,22 @@ mul-word c = search needs
 add-word : tie.Need-add-word
 add-word c = search needs
 
-add-word-2 : tie.Need-add-word-2
-add-word-2 c = search needs
-
-add-word-3 : tie.Need-add-word-3
-add-word-3 c = search needs
-
 word-requires : tie.Need-word-requires
 word-requires c κs = search needs
 
 returns : tie.Need-returns
 returns c =
     let a = c .before .before .before .args in
-    due-not-held (view (a .w .now)) (a .p) (a .q) (a .m) (c .before .word .ensures) (c .if1 .taken)
+    due-not-from (view (a .w .now)) (a .p) (a .q) (a .m) (c .before .word .ensures) (c .if1 .taken)
 
 mul-word-2 : tie.Need-mul-word-2
 mul-word-2 c = search needs
+
+add-word-2 : tie.Need-add-word-2
+add-word-2 c = search needs
+
+add-word-3 : tie.Need-add-word-3
+add-word-3 c = search needs
 
 add-word-4 : tie.Need-add-word-4
 add-word-4 c = search needs
@@ -38,8 +38,7 @@ word-requires-2 c κs = search needs
 returns-2 : tie.Need-returns-2
 returns-2 c =
     let a = c .before .before .before .before .before .args in
-    due-not-from (view (a .w .now)) (a .p) (a .q) (a .m) (c .before .before .before .word .ensures)
-    (c .before .before .if1 .left) (c .before .word2 .ensures) (c .if2 .taken)
+    due-not-held (view (a .w .now)) (a .p) (a .q) (a .m) (c .before .word2 .ensures) (c .if2 .taken)
 
 in-turn-requires : tie.Need-in-turn-requires
 in-turn-requires c κs = search needs
@@ -47,9 +46,8 @@ in-turn-requires c κs = search needs
 returns-3 : tie.Need-returns-3
 returns-3 c =
     let a = c .before .before .before .before .before .before .args in
-    due-is (view (a .w .now)) (a .p) (a .q) (a .m) (c .before .before .before .before .word .ensures)
-    (c .before .before .before .if1 .left) (c .before .before .word2 .ensures) (c .before .if2 .left)
-    (c .in-turn .ensures)
+    due-is (view (a .w .now)) (a .p) (a .q) (a .m) (c .before .before .word2 .ensures) (c .before .if2 .left)
+    (c .before .before .before .before .word .ensures) (c .before .before .before .if1 .left) (c .in-turn .ensures)
 
 pub is-due-spec : {M : Type 1} → statement M
 is-due-spec =
@@ -57,11 +55,11 @@ is-due-spec =
     (tie.spec
     mul-word
     add-word
-    add-word-2
-    add-word-3
     word-requires
     returns
     mul-word-2
+    add-word-2
+    add-word-3
     add-word-4
     word-requires-2
     returns-2

@@ -1,6 +1,6 @@
 -- `sends::send_ok` meets its contract. Assumes nothing.
 use mathlib.Core.Path.{sym, _∙_}
-use Rattle.sends.specs.Sends.{send-yes, send-no}
+use Rattle.sends.specs.Sends.{due-law, send-yes, send-no}
 use borrow.Author.Needs.{needs}
 use Rattle.sends.proofs.send_ok.Statement.{statement}
 use Rattle.sends.proofs.send_ok.Tie as tie
@@ -20,9 +20,13 @@ returns c =
     let t = o .before .before in
     let b = t .before .before .before .before in
     let a = b .args in (
-      o .send .ensures .0,
-      send-yes (a .w .now) _ (a .p) (a .q) (a .m) (b .pre .3) (b .pre .1) (b .pre .2)
-          (sym (t .before .is-due .ensures) ∙ t .if1 .taken) (o .send .ensures .1),
+      due-law (a .w .now) (a .p) (a .q) (a .m) (b .pre .3) (b .pre .1) (b .pre .2)
+          (sym (t .if1 .taken) ∙ t .before .is-due .ensures),
+      (
+        o .send .ensures .0,
+        send-yes (a .w .now) _ (a .p) (a .q) (a .m) (b .pre .3) (b .pre .1) (b .pre .2)
+            (sym (t .before .is-due .ensures) ∙ t .if1 .taken) (o .send .ensures .1),
+      ),
     )
 
 same-length-2 : tie.Need-same-length-2
@@ -32,9 +36,13 @@ returns-2 : tie.Need-returns-2
 returns-2 c =
     let b = c .before .before .before .before in
     let a = b .args in (
-      b .pre .0,
-      send-no (a .w .now) (a .p) (a .q) (a .m) (b .pre .3) (b .pre .1) (b .pre .2)
-          (sym (c .before .is-due .ensures) ∙ c .if1 .left),
+      due-law (a .w .now) (a .p) (a .q) (a .m) (b .pre .3) (b .pre .1) (b .pre .2)
+          (sym (c .if1 .left) ∙ c .before .is-due .ensures),
+      (
+        b .pre .0,
+        send-no (a .w .now) (a .p) (a .q) (a .m) (b .pre .3) (b .pre .1) (b .pre .2)
+            (sym (c .before .is-due .ensures) ∙ c .if1 .left),
+      ),
     )
 
 pub send-ok-spec : {M : Type 1} → statement M

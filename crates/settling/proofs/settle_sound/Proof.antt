@@ -8,7 +8,7 @@ use native.Mathlib.Nat.{sub-zero}
 use native.Mathlib.Omega.{arith}
 use lib.ListN.{length}
 use borrow.Author.Needs.{needs}
-use Rattle.world.specs.World.{view}
+use Rattle.world.specs.World.{count, view}
 use Rattle.world.specs.Layout.{length-encode}
 use Rattle.world.specs.SoundLaws.{size-high, count-high}
 use Rattle.world.specs.Settle.{letter, Settled, lowest}
@@ -87,6 +87,7 @@ found c = sym (c .before .before .before .lowest-letter .ensures) ∙ ap choice-
 within : (c : tie.After-known-told Inv-loop μ-loop)
     → (c .before .k .given .0 .0 < 3) × (c .before .k .given .0 .1 .0 < 64)
     × (c .before .k .given .0 .1 .1 .0 < 16) × (c .before .k .given .0 .1 .1 .1 .0 < 16)
+    × (c .before .k .given .0 .1 .0 < view (c .before .before .before .before .before .before .loop .w) count)
 within c =
     let l = c .before .before .before .before .before .before in
     letter-within (l .loop .w) _ _ _ _ (l .loop .inv .2 .sound) (found c)
@@ -109,6 +110,7 @@ arrive-requires c κs =
       sound-bounds _ (v .reads),
       rested-known (l .loop .quiescent) (view (l .loop .w)) (f .before .k .given .0 .1 .1 .1 .0) (c .test .result)
           (g .rested) (a .3) (c .test .ensures),
+      a .4,
     )
 
 set-requires : tie.Need-set-requires Inv-loop μ-loop
