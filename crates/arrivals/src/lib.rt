@@ -24,6 +24,6 @@ pub fn arrive(w: &mut [u16], k: usize, m: usize, q: usize, p: usize, quiescent: 
     if !ready::is_ready(w, p, m) {
         return held;
     }
-    cascade::cascade_one(w, p, m);
+    cascade::cascade_from(w, p, m, true);
     false
 }

@@ -19,7 +19,7 @@ module _ (bound : State → ℕ) (test : State → ℕ → Bool) (act : State �
     pub rest : end ≡ loop bound test act left state
 
   -- one turn
-  pub run-more : {P : ℕ → State → Type 0} {end : State} {w u : List ℕ} {left i : ℕ}
+  unfoldable pub run-more : {P : ℕ → State → Type 0} {end : State} {w u : List ℕ} {left i : ℕ}
       → ((k : ℕ) (t : State) (x : ℕ) → x < bound t → P (suc k) t → P k (act t x))
       → (r : Run P end w left) → 0 < left → i < bound (r .state) → i ≡ chosen bound test act (r .state)
       → Changes w u (λ x. act x i) → Run P end u (left - 1)

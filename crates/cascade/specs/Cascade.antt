@@ -11,7 +11,7 @@ use Rattle.world.specs.World.{count, next, fifo-length, causal-length, fifo, se
 use Rattle.world.specs.Layout.{put-same, put-at, set-encode, reads-cell}
 use Rattle.world.specs.Machine.{with-tables, merge, causal-one, causal-all, ready, appended, raised-next, send-oks, fifo-one, cascade}
 use Rattle.bounds.specs.Bounds.{Bounds, bounds-state}
-use Rattle.bounds.specs.Run.{Run, run-more, run-end, run-stop}
+use Rattle.bounds.specs.Run.{Run, run-end, run-stop}
 use Rattle.causal.specs.Causal.{causal-bounds, causal-stands}
 use Rattle.sends.specs.Sends.{oks-keep, bounds-oks}
 use Rattle.ready.specs.Ready.{messages, lowest}
@@ -94,13 +94,13 @@ module _ (p : ℕ) (s : State) (m : ℕ) (h : Bounds s) (hp : p < 16) (hm : m < 
   unfolding fifo-one
   bounds-fifo = bounds-oks p (s (sender m)) _ _ (bounds-next (s (sender m)) (h .senders m hm))
 
-  pub counted-fifo : fifo-one s p m count ≡ s count
+  counted-fifo : fifo-one s p m count ≡ s count
   unfolding fifo-one raised-next causal-one merge with-tables appended put
   counted-fifo =
       oks-keep p (s (sender m)) (λ t. t count ≡ s count) (λ t x e. e) _ _
       (causal-stands p (appended s p m) count (λ t i. refl))
 
-  pub longer-fifo : fifo-one s p m (fifo-length p) ≡ s (fifo-length p) + 1
+  longer-fifo : fifo-one s p m (fifo-length p) ≡ s (fifo-length p) + 1
   unfolding fifo-one raised-next put
   longer-fifo =
       oks-keep p (s (sender m)) (λ t. t (fifo-length p) ≡ s (fifo-length p) + 1) (λ t x e. e) _ _
@@ -112,7 +112,7 @@ pub record Kept (p n k : ℕ) (t : State) : Type 0 where
   pub counted : t count ≡ n
   pub room : t (fifo-length p) + k ≤ n
 
-kept-more : (p n : ℕ) → p < 16 → (k : ℕ) (t : State) (m : ℕ) → m < messages t → Kept p n (suc k) t
+pub kept-more : (p n : ℕ) → p < 16 → (k : ℕ) (t : State) (m : ℕ) → m < messages t → Kept p n (suc k) t
     → Kept p n k (fifo-one t p m)
 kept-more p n hp k t m l h =
     let hm : m < 64 = omega (arith, h .bounds .counts) in
@@ -140,13 +140,6 @@ cascading-start p w {n} {k} hp h en ek s e =
       rest = ap₂ (λ (x y : ℕ). loop messages (λ t. ready t p) (λ t. fifo-one t p) (x - y) s) (sym n1)
           (sym k1);
     }
-
-pub cascading-more : (p : ℕ) (s : State) {w u : List ℕ} {n left i : ℕ} → p < 16 → (t : Cascading p n s w left)
-    → 0 < left → i < n → i ≡ lowest p (t .state) → Changes w u (λ x. fifo-one x p i)
-    → Cascading p n s u (left - 1)
-cascading-more p s {n = n} {i = i} hp t h l e c =
-    let k : i < t .state count = omega (arith, t .kept .counted) in
-    run-more messages (λ t. ready t p) (λ t. fifo-one t p) (kept-more p n hp) t h k e c
 
 pub cascading-stop : (p : ℕ) (s : State) {w : List ℕ} {n left i : ℕ} → (t : Cascading p n s w left) → n ≤ i
     → i ≡ lowest p (t .state) → w ≡ encode (cascade s p)

@@ -155,7 +155,7 @@ module _ (p : ℕ) where
   send-oks-fixed t q (suc n) c k =
       send-ok-fixed (send-oks t p q n) q n c k ∙ send-oks-fixed t q n c k
 
-  fifo-one-fixed : (t : State) (m : ℕ) (c : Cell) → Fixed p c → fifo-one t p m c ≡ t c
+  pub fifo-one-fixed : (t : State) (m : ℕ) (c : Cell) → Fixed p c → fifo-one t p m c ≡ t c
   unfolding fifo-one appended raised-next
   fifo-one-fixed t m c k =
       let q : ℕ = t (sender m) in

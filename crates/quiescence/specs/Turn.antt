@@ -1,6 +1,6 @@
--- A turn of the cascade at a process where only the message it delivers is ready: if it sends no OK, it leaves the
--- process quiescent. What it delivers causally has no part in what is ready; of the messages of other senders none is
--- ready, as before; and one of the same sender that is ready is owed an OK. Assumes nothing.
+-- A turn of the cascade at a process where all ready messages have one sender: so they have after it, each is owed an
+-- OK, and if the turn sends none, it leaves the process quiescent. What it delivers causally has no part in what is
+-- ready, and neither have the OKs. Assumes nothing.
 use mathlib.Core.Path.{_≡_, refl, sym, ap, ap₂, _∙_, subst}
 use mathlib.Core.Bool.{Bool, true, false}
 use mathlib.Core.Logic.{_≢_, _⊎_, inl, inr}
@@ -9,14 +9,23 @@ use native.Mathlib.Omega.{arith}
 use native.Mathlib.Decide.{ℕ-discrete}
 use lib.Dec.{eqb}
 use borrow.Author.Tests.{eq-eqb}
-use Rattle.base.specs.Tests.{bool-cases, clash, both, both-l, both-r, both-i, le-or-lt}
+use Rattle.base.specs.Tests.{bool-cases, clash, pick, both, both-l, both-r, both-i, le-or-lt}
 use Rattle.base.specs.Search.{every, first-from, first-law}
 use Rattle.base.specs.Count.{in-at, absent, absent-out, out-absent}
 use Rattle.base.specs.Loop.{chosen, loop-keeps}
 use Rattle.world.specs.World.{Cell, size, count, rule, group, trust, counter, sequence, next, delivered, up, fifo-length, causal-length, held, marks, fifo, causal, sender, mask, stamp, number, flight, order, unused, State, put, Cell-discrete}
 use Rattle.world.specs.Layout.{put-same, put-other}
-use Rattle.world.specs.Machine.{with-tables, in-turn, outside-fifo, marked, ready, deliverable-at, merge, causal-one, causal-all, appended, raised-next, due, send-ok, send-oks, fifo-one}
-use Rattle.quiescence.specs.Quiescent.{Quiescent, OnlyReady, Same, the-count, causal-all-fixed, ready-same}
+use Rattle.world.specs.Machine.{with-tables, addressees, in-turn, outside-fifo, marked, ready, deliverable-at, merge, causal-one, causal-all, appended, raised-next, due, send-ok, send-oks, fifo-one}
+use Rattle.quiescence.specs.Quiescent.{Quiescent, OnlyReady, Same, the-count, causal-all-fixed, fifo-one-fixed, put-same-test, ready-same}
+
+-- all messages that are ready at p have the sender of m
+abbrev pub OneSender : State → ℕ → ℕ → Type 0
+OneSender s p m = (x : ℕ) → x < s count → ready s p x ≡ true → s (sender m) ≡ s (sender x)
+
+-- what a caller may know
+abbrev pub OneSenderIf : Bool → State → ℕ → ℕ → Type 0
+OneSenderIf true s p m = OneSender s p m
+OneSenderIf false s p m = Unit {0}
 
 -- p owes no OK for a message of q
 abbrev pub NoneDue : State → ℕ → ℕ → Type 0
@@ -26,27 +35,51 @@ NoneDue s p q = (x : ℕ) → x < s count → due s p q x ≡ false
 abbrev pub before-oks : State → ℕ → ℕ → State
 before-oks s p m = raised-next (causal-all (appended s p m) p) p (s (sender m))
 
--- ---- then m is the lowest that is ready
-pub only-lowest : (s : State) (p m : ℕ) → OnlyReady s p m → m < s count → ready s p m ≡ true
-    → first-from (s count) 0 (ready s p) ≡ m
-only-lowest s p m h l e = go (le-or-lt first m) (ℕ-discrete m first)
+-- ---- where only m may be ready, and is
+module _ (s : State) (p m : ℕ) (h : OnlyReady s p m) where
+  pub only-lowest : m < s count → ready s p m ≡ true → first-from (s count) 0 (ready s p) ≡ m
+  only-lowest l e = go (le-or-lt first m) (ℕ-discrete m first)
+    where
+      first : ℕ
+      first = first-from (s count) 0 (ready s p)
+
+      go : (first ≤ m) ⊎ (m < first) → Dec (m ≡ first) → first ≡ m
+      go (inr a) d = clash e (first-law (s count) 0 (ready s p) .miss m (omega arith) a)
+      go (inl a) (yes d) = sym d
+      go (inl a) (no d) = clash (first-law (s count) 0 (ready s p) .hit (omega arith)) (h first (omega arith) d)
+
+  pub only-sender : OneSender s p m
+  only-sender x l e = go (ℕ-discrete m x)
+    where
+      go : Dec (m ≡ x) → s (sender m) ≡ s (sender x)
+      go (yes d) = ap (λ (y : ℕ). s (sender y)) d
+      go (no d) = clash e (h x l d)
+
+-- where none is, the lowest is the count
+pub quiescent-lowest : (s : State) (p : ℕ) → Quiescent s p → first-from (s count) 0 (ready s p) ≡ s count
+quiescent-lowest s p h = go (le-or-lt (s count) first)
   where
     first : ℕ
     first = first-from (s count) 0 (ready s p)
 
-    go : (first ≤ m) ⊎ (m < first) → Dec (m ≡ first) → first ≡ m
-    go (inr a) d = clash e (first-law (s count) 0 (ready s p) .miss m (omega arith) a)
-    go (inl a) (yes d) = sym d
-    go (inl a) (no d) = clash (first-law (s count) 0 (ready s p) .hit (omega arith)) (h first (omega arith) d)
-
--- ---- no OK is sent where none is owed
-pub none-sent : (s : State) (p q k : ℕ) → ((x : ℕ) → x < k → due s p q x ≡ false) → send-oks s p q k ≡ s
-unfolding send-oks send-ok
-none-sent s p q zero h = refl
-none-sent s p q (suc k) h =
-    ap (λ (t : State). send-ok t p q k) (none-sent s p q k (λ x l. h x (omega arith))) ∙ rw (h k (omega arith)) refl
+    go : (s count ≤ first) ⊎ (first < s count) → first ≡ s count
+    go (inl l) = let z = first-law (s count) 0 (ready s p) .high in omega arith
+    go (inr l) = clash (first-law (s count) 0 (ready s p) .hit (omega arith)) (h first l)
 
 module _ (p : ℕ) where
+  -- ---- OKs change nothing that tells whether a message is ready
+  oks-same : (x q k : ℕ) (s : State) → Same p x s (send-oks s p q k)
+  unfolding send-oks send-ok
+  oks-same x q zero s c y = refl
+  oks-same x q (suc k) s c y = go (due t p q k) ∙ oks-same x q k s c y
+    where
+      t : State
+      t = send-oks s p q k
+
+      go : (b : Bool) → pick b (put t (flight k 2 p) (addressees t k)) t c ≡ t c
+      go true = put-same-test p x t (flight k 2 p) (addressees t k) (λ z. z) c y
+      go false = refl
+
   -- ---- causal deliveries change nothing that tells whether a message is ready
   causal-one-same : (x : ℕ) (t : State) (i : ℕ) → Same p x t (causal-one t p i)
   unfolding causal-one merge with-tables put
@@ -154,19 +187,41 @@ module _ (p : ℕ) where
     unfolding raised-next appended put
     before-count = causal-all-fixed p (appended s p m) count the-count
 
-    module _ (only : OnlyReady s p m) (none : NoneDue (before-oks s p m) p (s (sender m))) where
-      pub turn-is : fifo-one s p m ≡ before-oks s p m
-      unfolding fifo-one
-      turn-is = none-sent (before-oks s p m) p (s (sender m)) (before-oks s p m count) none
+    -- what is ready after the turn, is so before the OKs
+    turn-ready : (x : ℕ) → ready (fifo-one s p m) p x ≡ ready (before-oks s p m) p x
+    unfolding fifo-one
+    turn-ready x = ready-same p x t (send-oks t p q (t count)) (oks-same x q (t count) t)
+      where
+        t : State
+        t = before-oks s p m
 
-      pub turn-quiescent : Quiescent (before-oks s p m) p
-      turn-quiescent x l = go (ℕ-discrete (s (sender m)) (s (sender x))) (bool-cases (ready (before-oks s p m) p x))
+        q : ℕ
+        q = s (sender m)
+
+    module _ (only : OneSender s p m) where
+      -- what is ready then has the sender of m, and is owed an OK
+      ready-then : (x : ℕ) → x < s count → ready (before-oks s p m) p x ≡ true
+          → (s (sender m) ≡ s (sender x)) × (due (before-oks s p m) p (s (sender m)) x ≡ true)
+      ready-then x l e = go (ℕ-discrete (s (sender m)) (s (sender x)))
         where
           go : Dec (s (sender m) ≡ s (sender x))
-              → (ready (before-oks s p m) p x ≡ true) ⊎ (ready (before-oks s p m) p x ≡ false)
+              → (s (sender m) ≡ s (sender x)) × (due (before-oks s p m) p (s (sender m)) x ≡ true)
+          go (yes d) = (d, ready-due x d e)
+          go (no d) =
+              absurd (d (only x l
+              (ready-back x d (sym (ready-same p x plain (before-oks s p m) (plain-same x)) ∙ e))))
+
+      pub turn-sender : (x : ℕ) → x < s count → ready (fifo-one s p m) p x ≡ true → s (sender m) ≡ s (sender x)
+      turn-sender x l e = ready-then x l (sym (turn-ready x) ∙ e) .0
+
+      -- if none is owed, p is quiescent
+      pub turn-quiescent : NoneDue (before-oks s p m) p (s (sender m)) → Quiescent (fifo-one s p m) p
+      turn-quiescent none x l = turn-ready x ∙ go (bool-cases (ready (before-oks s p m) p x))
+        where
+          low : x < s count
+          low = omega (arith, fifo-one-fixed p s m count the-count)
+
+          go : (ready (before-oks s p m) p x ≡ true) ⊎ (ready (before-oks s p m) p x ≡ false)
               → ready (before-oks s p m) p x ≡ false
-          go d (inr e) = e
-          go (yes d) (inl e) = clash (ready-due x d e) (none x l)
-          go (no d) (inl e) =
-              clash (ready-back x d (sym (ready-same p x plain (before-oks s p m) (plain-same x)) ∙ e))
-              (only x (omega (arith, before-count)) (λ z. d (ap (λ (y : ℕ). s (sender y)) z)))
+          go (inr e) = e
+          go (inl e) = clash (ready-then x low e .1) (none x (omega (arith, low, before-count)))

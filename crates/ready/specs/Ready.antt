@@ -6,17 +6,18 @@ use Prim.Native.Nat.{ℕ, _≤_, _<_}
 use native.Mathlib.Omega.{arith}
 use lib.Bits.{bitAnd, bitXor}
 use lib.Dec.{eqb}
-use borrow.Author.Tests.{eq-eqb, ne-eqb}
+use borrow.Author.Tests.{eq-eqb, ne-eqb, not-true, not-false}
 use Rattle.base.specs.Tests.{clash, same, both, both-l, both-r, either}
 use Rattle.base.specs.Bits.{bit, only, differs, bit-and, bit-xor, bit-mask-of, mask-of-member, only-e, only-i}
-use Rattle.base.specs.Search.{every, every-true, every-intro, every-fails, every-cong, first-from, first-law}
+use Rattle.base.specs.Search.{every, every-true, every-intro, every-fails, every-cong, first-from, first-law, first-cong}
 use Rattle.base.specs.Count.{tally, absent}
 use Rattle.base.specs.Loop.{chosen}
-use Rattle.world.specs.World.{size, count, trust, fifo-length, held, marks, fifo, State, encode, view, Reads}
+use Rattle.world.specs.World.{size, count, trust, fifo-length, held, marks, fifo, sender, State, encode, view, Reads}
 use Rattle.world.specs.Layout.{get-encode, reads-cell}
 use Rattle.world.specs.Machine.{addressed, addressees, in-turn, outside-fifo, marked, ready, fifo-one}
 use Rattle.bounds.specs.Bounds.{Bounds, bounds-state}
-use Rattle.quiescence.specs.Quiescent.{Quiescent, OnlyReady}
+use Rattle.quiescence.specs.Quiescent.{Quiescent}
+use Rattle.quiescence.specs.Turn.{OneSenderIf}
 use Rattle.masks.specs.Ones.{count-only}
 use Rattle.sends.specs.Sends.{addressed-words, in-turn-words}
 
@@ -58,23 +59,31 @@ pub ready-law : (w : List ℕ) (p m : ℕ) {r : Bool} → Bounds (view w) → p 
 ready-law w p m h hp hm q s e =
     q ∙ ap (λ (x : List ℕ). ready (view x) p m) e ∙ ready-words s (bounds-state w s e h) p m hp hm
 
--- ---- what is ready in s is so in the words of s: a process is quiescent in both, or has only m ready
+-- ---- a process that is quiescent in s is so in the words of s
 pub quiescent-words : (s : State) (p : ℕ) → Bounds s → p < 16 → Quiescent s p → Quiescent (view (encode s)) p
 quiescent-words s p h hp a m l =
     let low : m < s count = omega (arith, get-encode s count tt) in
     ready-words s h p m hp (omega (arith, h .counts)) ∙ a m low
 
-pub only-words : (s : State) (p m : ℕ) → Bounds s → p < 16 → OnlyReady s p m → OnlyReady (view (encode s)) p m
-only-words s p m h hp a x l d =
+-- ---- all that are ready have one sender, in s and in its words
+pub sender-words : (b : Bool) (s : State) (p m : ℕ) → Bounds s → p < 16 → m < 64 → OneSenderIf b s p m
+    → OneSenderIf b (view (encode s)) p m
+sender-words true s p m h hp hm a = λ x l e.
     let low : x < s count = omega (arith, get-encode s count tt) in
-    ready-words s h p x hp (omega (arith, h .counts)) ∙ a x low d
+    let hx : x < 64 = omega (arith, h .counts) in
+    get-encode s (sender m) hm ∙ a x low (sym (ready-words s h p x hp hx) ∙ e) ∙ sym (get-encode s (sender x) hx)
+sender-words false s p m h hp hm a = tt
 
-pub only-state : (w : List ℕ) (s : State) (p m : ℕ) → w ≡ encode s → Bounds (view w) → p < 16 → OnlyReady (view w) p m
-    → OnlyReady s p m
-only-state w s p m e h hp a x l d =
-    let b = bounds-state w s e h in
-    let low : x < view w count = omega (arith, reads-cell w count tt s e) in
-    sym (ap (λ (y : List ℕ). ready (view y) p x) e ∙ ready-words s b p x hp (omega (arith, b .counts))) ∙ a x low d
+pub sender-state : (b : Bool) (w : List ℕ) (s : State) (p m : ℕ) → w ≡ encode s → Bounds (view w) → p < 16 → m < 64
+    → OneSenderIf b (view w) p m → OneSenderIf b s p m
+sender-state true w s p m q h hp hm a = λ x l e.
+    let k = bounds-state w s q h in
+    let low : x < view w count = omega (arith, reads-cell w count tt s q) in
+    let hx : x < 64 = omega (arith, k .counts) in
+    sym (reads-cell w (sender m) hm s q)
+    ∙ a x low (ap (λ (y : List ℕ). ready (view y) p x) q ∙ ready-words s k p x hp hx ∙ e)
+    ∙ reads-cell w (sender x) hx s q
+sender-state false w s p m q h hp hm a = tt
 
 -- ---- the marks that p waits for: those of the addressees that it trusts
 -- what the answer "p waits for the lowest trusted process without a mark" says: if so, a mark is missing
@@ -193,6 +202,49 @@ messages t = t count
 abbrev pub lowest : ℕ → State → ℕ
 lowest p s = chosen messages (λ t. ready t p) (λ t. fifo-one t p) s
 
-pub lowest-is : (p : ℕ) (s : State) {i n : ℕ} → n ≡ s count → i ≡ first-from n 0 (ready s p) → i ≡ lowest p s
+-- ---- the search: over the messages of q, where only these may be ready, or over all
+abbrev pub looked : Bool → State → ℕ → ℕ → ℕ → Bool
+looked true s p q m = both (eqb (s (sender m)) q) (ready s p m)
+looked false s p q m = ready s p m
+
+module _ (w : List ℕ) (p q m : ℕ) (hm : m < 64) {x : ℕ} (ex : x ≡ view w (sender m)) where
+  pub passed-over : (b : Bool) → both b (not (eqb x q)) ≡ true → Reads w false (λ s. looked b s p q m)
+  passed-over true d s e =
+      sym (ap (λ (y : Bool). both y (ready s p m))
+      (ap (λ (y : ℕ). eqb y q) (sym (reads-cell w (sender m) hm s e) ∙ sym ex) ∙ not-true (eqb x q) d))
+  passed-over false d s e = clash d refl
+
+  pub looked-at : (b : Bool) {r : Bool} → both b (not (eqb x q)) ≡ false → Reads w r (λ s. ready s p m)
+      → Reads w r (λ s. looked b s p q m)
+  looked-at true d er s e =
+      er s e ∙ sym (ap (λ (y : Bool). both y (ready s p m))
+      (ap (λ (y : ℕ). eqb y q) (sym (reads-cell w (sender m) hm s e) ∙ sym ex) ∙ not-false (eqb x q) d))
+  looked-at false d er s e = er s e
+
+-- it finds the lowest of all
+pub looked-lowest : (b : Bool) (s : State) (p q : ℕ)
+    → (b ≡ true → (x : ℕ) → x < s count → ready s p x ≡ true → q ≡ s (sender x))
+    → first-from (s count) 0 (looked b s p q) ≡ lowest p s
 unfolding chosen
-lowest-is p s en e = e ∙ ap (λ (k : ℕ). first-from k 0 (ready s p)) en
+looked-lowest false s p q h = refl
+looked-lowest true s p q h =
+    first-cong (s count) 0 (looked true s p q) (ready s p) (λ x _ l. go x (ready s p x) refl (h refl x (omega arith)))
+  where
+    go : (x : ℕ) (b : Bool) → ready s p x ≡ b → (ready s p x ≡ true → q ≡ s (sender x))
+        → both (eqb (s (sender x)) q) b ≡ b
+    go x true e f = rw (eq-eqb (s (sender x)) q (sym (f e))) refl
+    go x false e f = fourth (eqb (s (sender x)) q)
+
+-- the lowest in one state that words hold is the lowest in all
+lowest-words : (w : List ℕ) (s : State) (p : ℕ) → w ≡ encode s → Bounds (view w) → p < 16
+    → lowest p (view w) ≡ lowest p s
+unfolding chosen
+lowest-words w s p e h hp =
+    let b = bounds-state w s e h in
+    first-cong (view w count) 0 (ready (view w) p) (ready s p)
+    (λ x _ l. ap (λ (y : List ℕ). ready (view y) p x) e ∙ ready-words s b p x hp (omega (arith, h .counts)))
+    ∙ ap (λ (n : ℕ). first-from n 0 (ready s p)) (reads-cell w count tt s e)
+
+pub lowest-law : (w : List ℕ) (t : State) (p : ℕ) {m : ℕ} → w ≡ encode t → Bounds (view w) → p < 16
+    → m ≡ lowest p t → Reads w m (λ s. lowest p s)
+lowest-law w t p e h hp em s q = em ∙ sym (lowest-words w t p e h hp) ∙ lowest-words w s p q h hp

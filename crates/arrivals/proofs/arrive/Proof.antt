@@ -1,18 +1,21 @@
 -- `arrivals::arrive` meets its contract. Assumes nothing.
 use mathlib.Core.List.{List}
+use mathlib.Core.Bool.{true}
 use mathlib.Core.Path.{_≡_, sym, ap, _∙_, subst}
 use Prim.Native.Nat.{ℕ}
 use native.Mathlib.Omega.{arith}
 use borrow.Author.Needs.{needs}
 use borrow.Author.Tests.{not-true, not-false}
-use Rattle.world.specs.Layout.{encode-view, reads-cell}
+use Rattle.base.specs.Loop.{chosen}
+use Rattle.world.specs.Layout.{encode-view}
 use Rattle.world.specs.Machine.{leave, mark, arrival}
-use Rattle.world.specs.World.{count, State, encode, view}
+use Rattle.world.specs.World.{State, encode, view}
 use Rattle.bounds.specs.Bounds.{Bounds, bounds-words}
 use Rattle.keeps.specs.Cascade.{received}
 use Rattle.receiving.specs.Receiving.{bounds-marked, bounds-hold}
-use Rattle.quiescence.specs.Quiescent.{Quiescent, OnlyReady, received-count, received-only}
-use Rattle.ready.specs.Ready.{only-words}
+use Rattle.quiescence.specs.Quiescent.{Quiescent, received-count, received-only}
+use Rattle.quiescence.specs.Turn.{OneSender, only-lowest, only-sender}
+use Rattle.ready.specs.Ready.{lowest-law, sender-words}
 use Rattle.arrivals.specs.Arrival.{received-law, is-quiescent, over-law, mark-only}
 use Rattle.arrivals.proofs.arrive.Statement.{statement}
 use Rattle.arrivals.proofs.arrive.Tie as tie
@@ -142,29 +145,28 @@ returns-2 c =
       received-words h ∙ ap encode (sym (over c)),
     )
 
-cascade-one-requires : tie.Need-cascade-one-requires
-unfolding received-from held-from
-cascade-one-requires c κs =
+cascade-from-requires : tie.Need-cascade-from-requires
+unfolding received-from held-from chosen
+cascade-from-requires c κs =
     let r = c .before .before in
     let h = r .before .before .before .before .before in
     let m = h .before .before .before .before in
     let b = h .before .before .before .before .before .before .before .before .before .before .before in
     let a = b .args in
-    let v = view (a .w .now) in (
+    let u = h .take-hold .last .0 in
+    let only = received-only (a .k) (a .m) (a .q) (a .p) (view (a .w .now)) (quiet (r .before .before)) in
+    let bounds = bounds-hold (held-from m) (a .p) (a .m) (marked-bounds m) in (
       h .take-hold .ensures .1 .0,
       b .pre .4,
       received-bounds h,
-      omega (
-        arith,
-        reads-cell (h .take-hold .last .0) count tt (received-from h) (received-words h),
-        received-count (a .k) (a .m) (a .q) (a .p) v,
-        b .pre .7,
-      ),
-      subst (λ (u : List ℕ). OnlyReady (view u) (a .p) (a .m)) (sym (received-words h))
-          (only-words (received-from h) (a .p) (a .m) (bounds-hold (held-from m) (a .p) (a .m) (marked-bounds m)) (b .pre .4)
-          (received-only (a .k) (a .m) (a .q) (a .p) v (quiet (r .before .before)))),
-      sym (r .is-ready .ensures (view (h .take-hold .last .0)) (sym (encode-view _ (h .take-hold .ensures .1 .0))))
-          ∙ not-false (r .is-ready .result) (c .before .if2 .left),
+      lowest-law u (received-from h) (a .p) (received-words h) (received-bounds h) (b .pre .4)
+          (sym (only-lowest (received-from h) (a .p) (a .m) only
+          (omega (arith, received-count (a .k) (a .m) (a .q) (a .p) (view (a .w .now)), b .pre .7))
+          (sym (r .is-ready .ensures (received-from h) (received-words h))
+          ∙ not-false (r .is-ready .result) (c .before .if2 .left)))),
+      subst (λ (x : List ℕ). OneSender (view x) (a .p) (a .m)) (sym (received-words h))
+          (sender-words true (received-from h) (a .p) (a .m) bounds (b .pre .4) (b .pre .2)
+          (only-sender (received-from h) (a .p) (a .m) only)),
     )
 
 same-length-3 : tie.Need-same-length-3
@@ -175,7 +177,7 @@ unfolding received-from arrival
 returns-3 c =
     let o = c .before .before in
     let h = o .before .before .before .before .before .before .before .before in
-    (tt, o .cascade-one .ensures .1 (received-from h) (received-words h))
+    (tt, o .cascade-from .ensures .1 (received-from h) (received-words h))
 
 pub arrive-spec : {M : Type 1} → statement M
 arrive-spec =
@@ -190,6 +192,6 @@ arrive-spec =
     is-ready-requires
     same-length-2
     returns-2
-    cascade-one-requires
+    cascade-from-requires
     same-length-3
     returns-3)

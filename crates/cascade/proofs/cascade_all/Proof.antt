@@ -1,159 +1,31 @@
--- `cascade::cascade_all` meets its contract. The loop's invariant: the words hold a state from which what
--- is left of the definition's loop ends where the whole loop ends. Assumes nothing.
-use mathlib.Core.Path.{_≡_, sym, _∙_}
-use native.Mathlib.Omega.{arith}
+-- `cascade::cascade_all` meets its contract. Assumes nothing.
+use mathlib.Core.Bool.{false}
+use mathlib.Core.Path.{refl, _∙_}
 use borrow.Author.Needs.{needs}
-use lib.ListN.{length}
-use Rattle.world.specs.Layout.{encode-view, reads-cell}
-use Rattle.world.specs.Machine.{fifo-one}
-use Rattle.world.specs.World.{State, encode, view, fifo-length, count}
-use Rattle.bounds.specs.Bounds.{bounds-words}
-use Rattle.cascade.specs.Cascade.{Cascading, cascading-start, cascading-more, cascading-stop, cascading-end}
+use Rattle.base.specs.Tests.{clash}
+use Rattle.ready.specs.Ready.{looked-lowest}
 use Rattle.cascade.proofs.cascade_all.Statement.{statement}
 use Rattle.cascade.proofs.cascade_all.Tie as tie
 
-abbrev Inv-loop : tie.InvT-loop
-Inv-loop w₀ p n k left₀ w left = (length w ≡ 20480) × ((s : State) → w₀ ≡ encode s → Cascading p n s w left)
+first-ready-requires : tie.Need-first-ready-requires
+first-ready-requires c κs = search needs
 
-abbrev μ-loop : tie.MeasureT-loop
-μ-loop w₀ p n k left₀ w left = left
-
-word-requires : tie.Need-word-requires Inv-loop μ-loop
-word-requires c κs = search needs
-
-mul-word : tie.Need-mul-word Inv-loop μ-loop
-mul-word c = search needs
-
-add-word : tie.Need-add-word Inv-loop μ-loop
-add-word c = search needs
-
-add-word-2 : tie.Need-add-word-2 Inv-loop μ-loop
-add-word-2 c = search needs
-
-word-requires-2 : tie.Need-word-requires-2 Inv-loop μ-loop
-word-requires-2 c κs = search needs
-
-sub-left : tie.Need-sub-left Inv-loop μ-loop
-sub-left c =
-    let b = c .before .before .before .before .before in
-    omega (
-      arith,
-      c .word2 .ensures,
-      c .before .before .word .ensures,
-      b .pre .2 .fifo-lengths (b .args .p)
-          (b .pre .1),
-    )
-
-loop-holds : tie.Need-loop-holds Inv-loop μ-loop
-loop-holds c =
-    let b = c .before .before .before .before .before in (
+cascade-from-requires : tie.Need-cascade-from-requires
+cascade-from-requires c κs =
+    let f = c .before in
+    let b = f .before .before .before in (
       b .pre .0,
-      cascading-start (b .args .p) (b .args .w .now) (b .pre .1) (b .pre .2)
-          (c .before .before .word .ensures) (c .word2 .ensures),
-    )
-
--- the state at the loop's test
-turn : (c : tie.At-loop Inv-loop μ-loop)
-    → Cascading (c .before .before .before .before .before .before .args .p)
-    (c .before .before .before .word .result)
-    (view (c .before .before .before .before .before .before .args .w .now)) (c .loop .w)
-    (c .loop .left)
-turn c =
-    c .loop .inv .1 (view (c .before .before .before .before .before .before .args .w .now))
-    (sym (encode-view (c .before .before .before .before .before .before .args .w .now)
-    (c .before .before .before .before .before .before .pre .0)))
-
-first-ready-requires : tie.Need-first-ready-requires Inv-loop μ-loop
-first-ready-requires c κs =
-    let a = c .before .before in
-    let t = turn a in (
-      a .loop .inv .0,
-      a .before .before .before .before .before .before .pre .1,
-      bounds-words (a .loop .w)
-          (t .state) (t .words) (t .kept .bounds),
-    )
-
-same-length : tie.Need-same-length Inv-loop μ-loop
-same-length c =
-    c .before .before .before .before .loop .inv .0 ∙ sym
-    (c .before .before .before .before .before .before .before .before .before .before .pre .0)
-
-returns : tie.Need-returns Inv-loop μ-loop
-returns c =
-    let l = c .before .before .before .before .loop in
-    let p = c .before .before .before .before .before .before .before .before .before .before .args .p in (
-      l .inv .0,
-      λ s e. let t = l .inv .1 s e in
-          cascading-stop p s t (c .if1 .taken) (c .before .first-ready .ensures (t .state) (t .words)),
-    )
-
-fifo-one-requires : tie.Need-fifo-one-requires Inv-loop μ-loop
-fifo-one-requires c κs =
-    let a = c .before .before .before .before .before in
-    let b = a .before .before .before .before .before .before in
-    let t = turn a in
-    let k = reads-cell (a .loop .w) (fifo-length (b .args .p)) (omega (arith, b .pre .1)) (t .state)
-    (t .words) in
-    let z = reads-cell (a .loop .w) count tt (t .state) (t .words) in (
-      a .loop .inv .0,
       b .pre .1,
-      omega
-          (arith, c .before .if1 .left, t .kept .counted, t .kept .bounds .counts),
-      bounds-words (a .loop .w)
-          (t .state) (t .words) (t .kept .bounds),
-      omega
-          (arith, k, z, t .kept .room, t .kept .counted, c .before .before .before .before .loop-test .taken),
+      b .pre .2,
+      λ s e. f .first-ready .ensures s e ∙ looked-lowest false s (b .args .p) 0 (λ z. clash z refl),
+      tt,
     )
 
-sub-left-2 : tie.Need-sub-left-2 Inv-loop μ-loop
-sub-left-2 c = search needs
+same-length : tie.Need-same-length
+same-length c = search needs
 
-loop-less : tie.Need-loop-less Inv-loop μ-loop
-loop-less c = search needs
-
-loop-again : tie.Need-loop-again Inv-loop μ-loop
-loop-again c =
-    let o = c .before .before in
-    let a = o .before .before .before .before .before .before in
-    let b = a .before .before .before .before .before .before in
-    let p = b .args .p in (
-      o .fifo-one .ensures .1 .0,
-      λ s e. let t = a .loop .inv .1 s e in
-          cascading-more p s (b .pre .1) t (o .before .before .before .before .before .loop-test .taken)
-          (o .before .before .if1 .left) (o .before .before .before .first-ready .ensures (t .state)
-          (t .words)) (o .fifo-one .ensures .1 .1),
-    )
-
-same-length-2 : tie.Need-same-length-2 Inv-loop μ-loop
-same-length-2 c =
-    c .before .loop .inv .0 ∙ sym (c .before .before .before .before .before .before .before .pre .0)
-
-returns-2 : tie.Need-returns-2 Inv-loop μ-loop
-returns-2 c =
-    let l = c .before .loop in
-    let p = c .before .before .before .before .before .before .before .args .p in
-    let z : l .left ≡ 0 = omega arith in
-    (l .inv .0, λ s e. cascading-end p s z (l .inv .1 s e))
+returns : tie.Need-returns
+returns c = c .before .before .cascade-from .ensures
 
 pub cascade-all-spec : {M : Type 1} → statement M
-cascade-all-spec =
-    tie.close
-    (tie.spec
-    Inv-loop
-    μ-loop
-    word-requires
-    mul-word
-    add-word
-    add-word-2
-    word-requires-2
-    sub-left
-    loop-holds
-    first-ready-requires
-    same-length
-    returns
-    fifo-one-requires
-    sub-left-2
-    loop-less
-    loop-again
-    same-length-2
-    returns-2)
+cascade-all-spec = tie.close (tie.spec first-ready-requires cascade-from-requires same-length returns)

@@ -1,24 +1,24 @@
--- `ready::first_ready` meets its contract. The loop's invariant: the first ready message from i on is the
+-- `ready::first_ready` meets its contract. The loop's invariant: the first message from i on that passes is the
 -- first of all. Assumes nothing.
-use mathlib.Core.Path.{_≡_, sym, _∙_}
-use Prim.Native.Nat.{_-_, _≤_}
+use mathlib.Core.Path.{_≡_, sym, ap, _∙_}
+use Prim.Native.Nat.{ℕ, _-_, _≤_}
 use native.Mathlib.Omega.{arith}
 use borrow.Author.Needs.{needs}
 use native.Mathlib.Nat.{sub-zero}
 use Rattle.base.specs.Search.{first-from, first-skip, first-hit, first-end}
 use Rattle.world.specs.Layout.{reads-cell}
-use Rattle.world.specs.Machine.{ready}
 use Rattle.world.specs.World.{State, encode, count}
-use Rattle.ready.specs.Ready.{lowest-is}
+use Rattle.ready.specs.Ready.{looked}
 use Rattle.ready.proofs.first_ready.Statement.{statement}
 use Rattle.ready.proofs.first_ready.Tie as tie
 
 abbrev Inv-loop : tie.InvT-loop
-Inv-loop w p n i₀ i =
-    (i ≤ n) × ((s : State) → w ≡ encode s → first-from n 0 (ready s p) ≡ first-from (n - i) i (ready s p))
+Inv-loop w p q alone n i₀ i =
+    (i ≤ n) × ((s : State) → w ≡ encode s
+    → first-from n 0 (looked alone s p q) ≡ first-from (n - i) i (looked alone s p q))
 
 abbrev μ-loop : tie.MeasureT-loop
-μ-loop w p n i₀ i = n - i
+μ-loop w p q alone n i₀ i = n - i
 
 word-requires : tie.Need-word-requires Inv-loop μ-loop
 word-requires c κs = search needs
@@ -26,8 +26,8 @@ word-requires c κs = search needs
 loop-holds : tie.Need-loop-holds Inv-loop μ-loop
 loop-holds c = (omega arith, λ s e. rw (sub-zero (c .word .result)))
 
-is-ready-requires : tie.Need-is-ready-requires Inv-loop μ-loop
-is-ready-requires c κs =
+is-next-requires : tie.Need-is-next-requires Inv-loop μ-loop
+is-next-requires c κs =
     let b = c .before .before .before .before in
     (b .pre .0, b .pre .1, omega (arith, c .before .before .word .ensures, b .pre .2 .counts), b .pre .2)
 
@@ -36,9 +36,9 @@ returns c s e =
     let a = c .before .before .before .before .before .before .args in
     let l = c .before .before .before .loop in
     let n = c .before .before .before .before .word in
-    lowest-is (a .p) s (n .ensures ∙ reads-cell (a .w .now) count tt s e)
-    (sym (l .inv .1 s e ∙ first-hit (ready s (a .p)) (n .result) (l .i) (omega arith)
-    (sym (c .before .is-ready .ensures s e) ∙ c .if1 .taken)))
+    let f = looked (a .alone) s (a .p) (a .q) in
+    sym (first-hit f (n .result) (l .i) (omega arith) (sym (c .before .is-next .ensures s e) ∙ c .if1 .taken))
+    ∙ sym (l .inv .1 s e) ∙ ap (λ (k : ℕ). first-from k 0 f) (n .ensures ∙ reads-cell (a .w .now) count tt s e)
 
 add-i : tie.Need-add-i Inv-loop μ-loop
 add-i c = search needs
@@ -53,8 +53,8 @@ loop-again c =
     let n = c .before .before .before .before .word in (
       omega arith,
       λ s e. l .inv .1 s e
-          ∙ first-skip (ready s (a .p)) (n .result) (l .i) (omega arith)
-          (sym (c .before .is-ready .ensures s e) ∙ c .if1 .left),
+          ∙ first-skip (looked (a .alone) s (a .p) (a .q)) (n .result) (l .i) (omega arith)
+          (sym (c .before .is-next .ensures s e) ∙ c .if1 .left),
     )
 
 returns-2 : tie.Need-returns-2 Inv-loop μ-loop
@@ -62,8 +62,9 @@ returns-2 c s e =
     let a = c .before .before .before .before .args in
     let l = c .before .loop in
     let n = c .before .before .word in
-    lowest-is (a .p) s (n .ensures ∙ reads-cell (a .w .now) count tt s e)
-    (sym (l .inv .1 s e ∙ first-end (ready s (a .p)) (n .result) (l .i) (omega arith)))
+    let f = looked (a .alone) s (a .p) (a .q) in
+    sym (first-end f (n .result) (l .i) (omega arith)) ∙ sym (l .inv .1 s e)
+    ∙ ap (λ (k : ℕ). first-from k 0 f) (n .ensures ∙ reads-cell (a .w .now) count tt s e)
 
 pub first-ready-spec : {M : Type 1} → statement M
 first-ready-spec =
@@ -73,7 +74,7 @@ first-ready-spec =
     μ-loop
     word-requires
     loop-holds
-    is-ready-requires
+    is-next-requires
     returns
     add-i
     loop-less
