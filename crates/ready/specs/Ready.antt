@@ -6,7 +6,7 @@ use Prim.Native.Nat.{ℕ, _≤_, _<_}
 use native.Mathlib.Omega.{arith}
 use lib.Bits.{bitAnd, bitXor}
 use lib.Dec.{eqb}
-use borrow.Author.Tests.{eq-eqb, ne-eqb, not-true, not-false}
+use borrow.Author.Tests.{eq-eqb, ne-eqb}
 use Rattle.base.specs.Tests.{clash, same, both, both-l, both-r, either}
 use Rattle.base.specs.Bits.{bit, only, differs, bit-and, bit-xor, bit-mask-of, mask-of-member, only-e, only-i}
 use Rattle.base.specs.Search.{every, every-true, every-intro, every-fails, every-cong, first-from, first-law, first-cong}
@@ -203,23 +203,23 @@ abbrev pub lowest : ℕ → State → ℕ
 lowest p s = chosen messages (λ t. ready t p) (λ t. fifo-one t p) s
 
 -- ---- the search: over the messages of q, where only these may be ready, or over all
+abbrev pub searched : Bool → State → ℕ → ℕ → Bool
+searched alone s q m = either (not alone) (eqb (s (sender m)) q)
+
 abbrev pub looked : Bool → State → ℕ → ℕ → ℕ → Bool
-looked true s p q m = both (eqb (s (sender m)) q) (ready s p m)
-looked false s p q m = ready s p m
+looked alone s p q m = both (searched alone s q m) (ready s p m)
 
-module _ (w : List ℕ) (p q m : ℕ) (hm : m < 64) {x : ℕ} (ex : x ≡ view w (sender m)) where
-  pub passed-over : (b : Bool) → both b (not (eqb x q)) ≡ true → Reads w false (λ s. looked b s p q m)
-  passed-over true d s e =
-      sym (ap (λ (y : Bool). both y (ready s p m))
-      (ap (λ (y : ℕ). eqb y q) (sym (reads-cell w (sender m) hm s e) ∙ sym ex) ∙ not-true (eqb x q) d))
-  passed-over false d s e = clash d refl
+module _ (w : List ℕ) (p q m : ℕ) (hm : m < 64) (b : Bool) {r : Bool} (er : r ≡ searched b (view w) q m) where
+  pub passed-over : r ≡ false → (s : State) → w ≡ encode s → looked b s p q m ≡ false
+  passed-over d s e =
+      ap (λ (x : ℕ). both (either (not b) (eqb x q)) (ready s p m)) (sym (reads-cell w (sender m) hm s e))
+      ∙ ap (λ (x : Bool). both x (ready s p m)) (sym er ∙ d)
 
-  pub looked-at : (b : Bool) {r : Bool} → both b (not (eqb x q)) ≡ false → Reads w r (λ s. ready s p m)
-      → Reads w r (λ s. looked b s p q m)
-  looked-at true d er s e =
-      er s e ∙ sym (ap (λ (y : Bool). both y (ready s p m))
-      (ap (λ (y : ℕ). eqb y q) (sym (reads-cell w (sender m) hm s e) ∙ sym ex) ∙ not-false (eqb x q) d))
-  looked-at false d er s e = er s e
+  pub looked-at : {x : Bool} → r ≡ true → Reads w x (λ s. ready s p m) → (s : State) → w ≡ encode s
+      → looked b s p q m ≡ x
+  looked-at d ex s e =
+      ap (λ (x : ℕ). both (either (not b) (eqb x q)) (ready s p m)) (sym (reads-cell w (sender m) hm s e))
+      ∙ ap (λ (x : Bool). both x (ready s p m)) (sym er ∙ d) ∙ sym (ex s e)
 
 -- it finds the lowest of all
 pub looked-lowest : (b : Bool) (s : State) (p q : ℕ)

@@ -1,4 +1,5 @@
 // The test of the cascade: which messages a process can deliver in FIFO order, and the lowest of them.
+ghost use mathlib.Core.Bool.{_&&_};
 ghost use mathlib.Core.Path.{_≡_};
 ghost use Prim.Native.Nat.{_<_};
 ghost use lib.ListN.{length};
@@ -6,7 +7,7 @@ ghost use Rattle.base.specs.Search.{every, first-from};
 ghost use Rattle.world.specs.World.{size, count, trust, marks, view, Reads};
 ghost use Rattle.world.specs.Machine.{marked, ready};
 ghost use Rattle.bounds.specs.Bounds.{Bounds};
-ghost use Rattle.ready.specs.Ready.{Waits, looked};
+ghost use Rattle.ready.specs.Ready.{Waits, searched};
 
 // The processes that p trusts.
 fn trusted(w: &[u16], p: usize) -> u16
@@ -71,28 +72,26 @@ pub fn is_ready(w: &[u16], p: usize, m: usize) -> bool
     deliverable::absent_from(w, cells::PROCESSES + p * cells::PROCESS + cells::FIFO, n, m)
 }
 
-// Whether p can deliver message m in FIFO order; a message that is not q's is passed over where it is known that only
-// messages of q may be ready.
-fn is_next(w: &[u16], p: usize, q: usize, alone: bool, m: usize) -> bool
-    requires { ⌜ (length (now w) ≡ 20480) × (p < 16) × (m < 64) × Bounds (view (now w)) ⌝ }
-    ensures { λ r. ⌜ Reads (now (w .entry)) r (λ s. looked alone s p q m) ⌝ }
+// Whether message m is looked at in a search: all are, or those of q where only these may be ready.
+fn is_searched(w: &[u16], q: usize, alone: bool, m: usize) -> bool
+    requires { ⌜ (length (now w) ≡ 20480) × (m < 64) ⌝ }
+    ensures { λ r. ⌜ r ≡ searched alone (view (now (w .entry))) q m ⌝ }
 {
-    if alone & (cells::word(w, cells::MESSAGES + m * cells::MESSAGE) != q) {
-        return false;
-    }
-    is_ready(w, p, m)
+    !alone | (cells::word(w, cells::MESSAGES + m * cells::MESSAGE) == q)
 }
 
 // The lowest message that p can deliver in FIFO order, of q or of all, or the count.
 pub fn first_ready(w: &[u16], p: usize, q: usize, alone: bool) -> usize
     requires { ⌜ (length (now w) ≡ 20480) × (p < 16) × Bounds (view (now w)) ⌝ }
-    ensures { λ r. ⌜ Reads (now (w .entry)) r (λ s. first-from (s count) 0 (looked alone s p q)) ⌝ }
+    ensures { λ r. ⌜ Reads (now (w .entry)) r (λ s. first-from (s count) 0 (λ x. searched alone s q x && ready s p x)) ⌝ }
 {
     let n = cells::word(w, cells::COUNT);
     let mut i: usize = 0;
     while i < n {
-        if is_next(w, p, q, alone, i) {
-            return i;
+        if is_searched(w, q, alone, i) {
+            if is_ready(w, p, i) {
+                return i;
+            }
         }
         i += 1;
     }
