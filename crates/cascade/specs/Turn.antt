@@ -1,24 +1,24 @@
--- A turn of the cascade with the search for the message of the next one: where only messages of one sender may be
--- ready, those alone are looked at, and only if the turn sent an OK. Assumes nothing.
-use mathlib.Core.Path.{_≡_, refl, sym, ap, _∙_, subst}
+-- The turns of the cascade: the message that each delivers, known or looked for; where all ready messages have one sender
+-- these alone are looked at, and only after a turn that owed an OK. Assumes nothing.
+use mathlib.Core.Path.{_≡_, refl, sym, ap, _∙_}
 use mathlib.Core.Bool.{Bool, true, false, not}
 use mathlib.Core.List.{List}
 use mathlib.Core.Logic.{_⊎_, inl, inr}
 use Prim.Native.Nat.{ℕ, _-_, _≤_, _<_}
 use native.Mathlib.Omega.{arith}
-use lib.ListN.{length}
-use Rattle.base.specs.Tests.{bool-cases, clash, both, pick, pick-yes, pick-no}
+use borrow.Author.Tests.{not-true, not-false}
+use Rattle.base.specs.Tests.{bool-cases, clash, either, pick, pick-yes, pick-no}
 use Rattle.base.specs.Search.{some, some-i, first-from, first-law}
 use Rattle.base.specs.Loop.{chosen}
 use Rattle.world.specs.World.{count, fifo-length, sender, State, encode, view, Reads, Changes}
-use Rattle.world.specs.Layout.{encode-view, reads-cell}
-use Rattle.world.specs.Machine.{ready, appended, causal-all, raised-next, due, fifo-one}
+use Rattle.world.specs.Layout.{reads-cell}
+use Rattle.world.specs.Machine.{ready, appended, causal-all, raised-next, due, fifo-one, cascade}
 use Rattle.bounds.specs.Bounds.{Bounds, bounds-words}
 use Rattle.bounds.specs.Run.{run-more}
-use Rattle.quiescence.specs.Quiescent.{the-count, a-sender, fifo-one-fixed}
+use Rattle.quiescence.specs.Quiescent.{Quiescent, the-count, a-sender, fifo-one-fixed}
 use Rattle.quiescence.specs.Turn.{OneSenderIf, NoneDue, before-oks, quiescent-lowest, turn-sender, turn-quiescent}
-use Rattle.ready.specs.Ready.{messages, lowest, looked, looked-lowest, sender-words, sender-state}
-use Rattle.cascade.specs.Cascade.{Cascading, kept-more, bounds-fifo}
+use Rattle.ready.specs.Ready.{messages, lowest, looked, looked-lowest, KnownIf, known-state}
+use Rattle.cascade.specs.Cascade.{Cascading, kept-more, cascading-stop}
 
 -- whether p owes an OK after the delivery of m: one that the turn sends
 abbrev pub owes-after : State → ℕ → ℕ → Bool
@@ -34,103 +34,117 @@ owes-law w u1 u2 u3 p m {q} hm eq c1 c2 c3 c4 s e =
     ∙ ap (λ (k : ℕ). some (raised-next t p k count) (due (raised-next t p k) p k))
     (eq ∙ reads-cell w (sender m) hm s e)
 
--- ---- the lowest that is ready after the turn
--- as the code looks for it: nowhere, if only messages of one sender may be ready and no OK was owed
-abbrev pub found : Bool → Bool → State → ℕ → ℕ → ℕ
-found alone owed s p q = pick (both alone (not owed)) (s count) (first-from (s count) 0 (looked alone s p q))
-
-pub found-none : (w : List ℕ) (p q : ℕ) {n : ℕ} (a o : Bool) → both a (not o) ≡ true → n ≡ view w count
-    → Reads w n (λ s. found a o s p q)
-found-none w p q a o d en s e =
-    en ∙ reads-cell w count tt s e ∙ sym (pick-yes (s count) (first-from (s count) 0 (looked a s p q)) d)
-
-pub found-some : (w : List ℕ) (p q : ℕ) {r : ℕ} (a o : Bool) → both a (not o) ≡ false
-    → Reads w r (λ s. first-from (s count) 0 (looked a s p q)) → Reads w r (λ s. found a o s p q)
-found-some w p q a o d er s e =
-    er s e ∙ sym (pick-no (s count) (first-from (s count) 0 (looked a s p q)) d)
-
-found-lowest : (b o : Bool) (s : State) (p m : ℕ) → o ≡ owes-after s p m → OneSenderIf b s p m
-    → found b o (fifo-one s p m) p (s (sender m)) ≡ lowest p (fifo-one s p m)
-unfolding chosen
-found-lowest false o s p m eo h = looked-lowest false (fifo-one s p m) p (s (sender m)) (λ e. clash e refl)
-found-lowest true true s p m eo h =
-    looked-lowest true (fifo-one s p m) p (s (sender m))
-    (λ _ x l e. turn-sender p s m h x (omega (arith, fifo-one-fixed p s m count the-count)) e
-    ∙ sym (fifo-one-fixed p s m (sender x) (a-sender x)))
-found-lowest true false s p m eo h = sym (quiescent-lowest (fifo-one s p m) p (turn-quiescent p s m h none))
+none-due : (s : State) (p m : ℕ) → owes-after s p m ≡ false → NoneDue (before-oks s p m) p (s (sender m))
+none-due s p m f x k = go (bool-cases (due (before-oks s p m) p (s (sender m)) x))
   where
-    none : NoneDue (before-oks s p m) p (s (sender m))
-    none x k = go (bool-cases (due (before-oks s p m) p (s (sender m)) x))
-      where
-        go : (due (before-oks s p m) p (s (sender m)) x ≡ true) ⊎ (due (before-oks s p m) p (s (sender m)) x ≡ false)
-            → due (before-oks s p m) p (s (sender m)) x ≡ false
-        go (inl d) =
-            clash (some-i (before-oks s p m count) (due (before-oks s p m) p (s (sender m))) x k d) (sym eo)
-        go (inr d) = d
+    go : (due (before-oks s p m) p (s (sender m)) x ≡ true) ⊎ (due (before-oks s p m) p (s (sender m)) x ≡ false)
+        → due (before-oks s p m) p (s (sender m)) x ≡ false
+    go (inl d) = clash (some-i (before-oks s p m count) (due (before-oks s p m) p (s (sender m))) x k d) f
+    go (inr d) = d
 
--- ---- a turn on words
-module _ (w u : List ℕ) (p m : ℕ) (b : Bool) (h : Bounds (view w)) (hp : p < 16) (hm : m < 64)
-    (one : OneSenderIf b (view w) p m) where
-  pub turn-law : {q r : ℕ} {o : Bool} → q ≡ view w (sender m) → Reads w o (λ s. owes-after s p m)
-      → Changes w u (λ s. fifo-one s p m) → Reads u r (λ s. found b o s p q)
-      → Reads w r (λ s. lowest p (fifo-one s p m))
-  turn-law {o = o} eq eo c er s e =
-      er (fifo-one s p m) (c s e)
-      ∙ ap (λ (k : ℕ). found b o (fifo-one s p m) p k) (eq ∙ reads-cell w (sender m) hm s e)
-      ∙ found-lowest b o s p m (eo s e) (sender-state b w s p m e h hp hm one)
+-- ---- the choice of the message to deliver
+abbrev pub choice : Bool → Bool → State → ℕ → ℕ → ℕ
+choice alone look s p i = pick look (first-from (s count) 0 (looked alone s p (s (sender i)))) i
 
--- the bounds after it
-pub turn-bounds : (w u : List ℕ) (p m : ℕ) → length w ≡ 20480 → Bounds (view w) → p < 16 → m < 64
-    → view w (fifo-length p) < view w count → Changes w u (λ s. fifo-one s p m) → Bounds (view u)
-turn-bounds w u p m l h hp hm room c =
-    bounds-words u (fifo-one (view w) p m) (c (view w) (sym (encode-view w l))) (bounds-fifo p (view w) m h hp hm room)
+pub choice-known : (w : List ℕ) (p i : ℕ) (a l : Bool) → not l ≡ true → Reads w i (λ s. choice a l s p i)
+choice-known w p i a l d s e =
+    sym (pick-no (first-from (s count) 0 (looked a s p (s (sender i)))) i (not-true l d))
 
--- ---- the loop: m is the lowest that is ready, and all that are have its sender, if so
-pub record Going (alone : Bool) (p n : ℕ) (s : State) (w : List ℕ) (left m : ℕ) : Type 0 where
+pub choice-looked : (w : List ℕ) (p i : ℕ) {q r : ℕ} (a l : Bool) → i < 64 → not l ≡ false → q ≡ view w (sender i)
+    → Reads w r (λ s. first-from (s count) 0 (looked a s p q)) → Reads w r (λ s. choice a l s p i)
+choice-looked w p i a l hi d eq er s e =
+    er s e ∙ ap (λ (x : ℕ). first-from (s count) 0 (looked a s p x)) (eq ∙ reads-cell w (sender i) hi s e)
+    ∙ sym (pick-yes (first-from (s count) 0 (looked a s p (s (sender i)))) i (not-false l d))
+
+-- ---- the loop: all that are ready have the sender of i, if so; and i is the lowest, if it is not looked for
+pub record Going (alone : Bool) (p n : ℕ) (s : State) (w : List ℕ) (left i : ℕ) (look : Bool) : Type 0 where
   pub run : Cascading p n s w left
-  pub first : m ≡ lowest p (run .state)
-  pub same : m < n → OneSenderIf alone (run .state) p m
+  pub same : OneSenderIf alone (run .state) p i
+  pub first : look ≡ false → i ≡ lowest p (run .state)
 
-pub going-start : (b : Bool) (p n left m : ℕ) (s : State) {w : List ℕ} → Bounds (view w) → p < 16 → n ≤ 64
-    → (c : Cascading p n s w left) → Reads w m (λ t. lowest p t) → OneSenderIf b (view w) p m
-    → Going b p n s w left m
-going-start b p n left m s {w} h hp z c er one = record {
-  run = c;
-  first = er (c .state) (c .words);
-  same = λ l. sender-state b w (c .state) p m (c .words) h hp (omega arith) one;
-}
+pub going-start : (b : Bool) (p n left m : ℕ) (s : State) {w : List ℕ} → Bounds (view w) → p < 16 → m < 64
+    → Cascading p n s w left → KnownIf b (view w) p m → Going b p n s w left m (not b)
+going-start true p n left m s {w} h hp hm c k =
+    let z = known-state true w (c .state) p m (c .words) h hp hm k in
+    record { run = c; same = z .same; first = λ _. z .first }
+going-start false p n left m s h hp hm c k = record { run = c; same = tt; first = λ e. clash refl e }
 
-going-same : (b : Bool) (t : State) (p m x : ℕ) → OneSenderIf b t p m → x < t count → x ≡ lowest p (fifo-one t p m)
-    → OneSenderIf b (fifo-one t p m) p x
-unfolding chosen
-going-same true t p m x one l e = λ y k r.
-    let n = fifo-one-fixed p t m count the-count in
-    let u : State = fifo-one t p m in
-    let hit : ready u p x ≡ true =
-    ap (ready u p) e ∙ first-law (u count) 0 (ready u p) .hit (omega (arith, e)) in
-    fifo-one-fixed p t m (sender x) (a-sender x) ∙ sym (turn-sender p t m one x l hit)
-    ∙ turn-sender p t m one y (omega arith) r ∙ sym (fifo-one-fixed p t m (sender y) (a-sender y))
-going-same false t p m x one l e = tt
+-- the choice is the lowest
+module _ (b : Bool) (p n : ℕ) (s : State) {w : List ℕ} {left i : ℕ} (l : Bool) (g : Going b p n s w left i l) where
+  abbrev t : State
+  t = g .run .state
 
-pub going-more : (b : Bool) (p n : ℕ) (s : State) {w u : List ℕ} {left m x : ℕ} → p < 16
-    → (g : Going b p n s w left m) → 0 < left → m < n → Changes w u (λ t. fifo-one t p m)
-    → Reads w x (λ t. lowest p (fifo-one t p m)) → Going b p n s u (left - 1) x
-unfolding run-more
-going-more b p n s {m = m} {x = x} hp g h l c er =
-    let t : State = g .run .state in
-    let e : x ≡ lowest p (fifo-one t p m) = er t (g .run .words) in
-    let k : m < t count = omega (arith, g .run .kept .counted) in
-    record {
-      run = run-more messages (λ t. ready t p) (λ t. fifo-one t p) (kept-more p n hp) (g .run) h k (g .first) c;
-      first = e;
-      same = λ k. going-same b t p m x (g .same l) (omega (arith, g .run .kept .counted)) e;
+  pub going-lowest : {x : ℕ} → Reads w x (λ s. choice b l s p i) → x ≡ lowest p t
+  going-lowest er = er t (g .run .words) ∙ go l refl
+    where
+      go : (y : Bool) → l ≡ y → choice b y t p i ≡ lowest p t
+      go true e = looked-lowest b t p (t (sender i)) (same-if b (g .same))
+        where
+          same-if : (y : Bool) → OneSenderIf y t p i
+              → y ≡ true → (x : ℕ) → x < t count → ready t p x ≡ true → t (sender i) ≡ t (sender x)
+          same-if true h z = h
+          same-if false h z = clash z refl
+      go false e = g .first e
+
+  -- after the delivery of the choice
+  module _ {x : ℕ} {u : List ℕ} {o : Bool} (hp : p < 16) (left-one : 0 < left) (low : x < n)
+      (er : Reads w x (λ s. choice b l s p i)) (c : Changes w u (λ t. fifo-one t p x))
+      (eo : Reads w o (λ s. owes-after s p x)) where
+    e : x ≡ lowest p t
+    e = going-lowest er
+
+    k : x < t count
+    k = omega (arith, g .run .kept .counted)
+
+    -- the choice has the sender too
+    chosen-same : (y : Bool) → OneSenderIf y t p i → OneSenderIf y t p x
+    unfolding chosen
+    chosen-same true h = λ z j r.
+        let hit : ready t p x ≡ true = ap (ready t p) e ∙ first-law (t count) 0 (ready t p) .hit (omega (arith, k, e)) in
+        sym (h x k hit) ∙ h z j r
+    chosen-same false h = tt
+
+    after-same : (y : Bool) → OneSenderIf y t p x → OneSenderIf y (fifo-one t p x) p x
+    after-same true h = λ z j r.
+        let m = fifo-one-fixed p t x count the-count in
+        fifo-one-fixed p t x (sender x) (a-sender x) ∙ turn-sender p t x h z (omega arith) r
+        ∙ sym (fifo-one-fixed p t x (sender z) (a-sender z))
+    after-same false h = tt
+
+    next : Cascading p n s u (left - 1)
+    next = run-more messages (λ t. ready t p) (λ t. fifo-one t p) (kept-more p n hp) (g .run) left-one k e c
+
+    pub going-more : either o (not b) ≡ true → Going b p n s u (left - 1) x (either o (not b))
+    unfolding next run-more
+    going-more d = record {
+      run = next;
+      same = after-same b (chosen-same b (g .same));
+      first = λ f. clash d f;
     }
 
--- the words at the loop's test
-pub going-sender : (b : Bool) (p n : ℕ) (s : State) {w : List ℕ} {left m : ℕ} → p < 16 → m < n
-    → (g : Going b p n s w left m) → OneSenderIf b (view w) p m
-going-sender b p n s {m = m} hp l g =
-    let t = g .run in
-    let hm : m < 64 = omega (arith, t .kept .bounds .counts, t .kept .counted) in
-    subst (λ (x : List ℕ). OneSenderIf b (view x) p m) (sym (t .words))
-    (sender-words b (t .state) p m (t .kept .bounds) hp hm (g .same l))
+    -- one sender, and no OK owed: nothing is ready
+    pub going-stops : either o (not b) ≡ false → u ≡ encode (cascade s p)
+    unfolding next run-more chosen
+    going-stops d =
+        cascading-stop p s next (omega (arith, next .kept .counted))
+        (sym (quiescent-lowest (fifo-one t p x) p (quiet b o d (eo t (g .run .words)) (chosen-same b (g .same)))
+        ∙ next .kept .counted))
+      where
+        quiet : (y z : Bool) → either z (not y) ≡ false → z ≡ owes-after t p x → OneSenderIf y t p x
+            → Quiescent (fifo-one t p x) p
+        quiet true false f ez h = turn-quiescent p t x h (none-due t p x (sym ez))
+        quiet true true f ez h = clash refl f
+        quiet false true f ez h = clash refl f
+        quiet false false f ez h = clash refl f
+
+-- the words before a turn
+pub going-room : (b : Bool) (p n : ℕ) (s : State) {w : List ℕ} {left i : ℕ} {l : Bool} → p < 16 → 0 < left
+    → (g : Going b p n s w left i l) → Bounds (view w) × (view w (fifo-length p) < view w count) × (n ≤ 64)
+going-room b p n s {w} hp h g =
+    let r = g .run in
+    let a = reads-cell w (fifo-length p) hp (r .state) (r .words) in
+    let z = reads-cell w count tt (r .state) (r .words) in (
+      bounds-words w (r .state) (r .words) (r .kept .bounds),
+      omega (arith, r .kept .room, r .kept .counted),
+      omega (arith, r .kept .counted, r .kept .bounds .counts),
+    )

@@ -4,10 +4,9 @@ ghost use Prim.Native.Nat.{_+_, _≤_, _<_};
 ghost use lib.ListN.{length};
 ghost use Rattle.world.specs.World.{count, fifo-length, next, view, Reads, Changes};
 ghost use Rattle.world.specs.Machine.{appended, raised-next, fifo-one, cascade};
-ghost use Rattle.quiescence.specs.Turn.{OneSenderIf};
 ghost use Rattle.bounds.specs.Bounds.{Bounds};
-ghost use Rattle.ready.specs.Ready.{lowest};
-ghost use Rattle.cascade.specs.Turn.{owes-after, found};
+ghost use Rattle.ready.specs.Ready.{KnownIf};
+ghost use Rattle.cascade.specs.Turn.{owes-after, choice};
 
 // Message m appended to p's FIFO log.
 pub fn append(w: &mut [u16], p: usize, m: usize)
@@ -44,33 +43,23 @@ pub fn fifo_one(w: &mut [u16], p: usize, m: usize) -> bool
     sends::send_oks(w, p, q)
 }
 
-// The lowest message that p can deliver after one of q's was delivered, or the count. Where only messages of q may be
-// ready, none is unless an OK was owed.
-fn next_ready(w: &[u16], p: usize, q: usize, alone: bool, owed: bool) -> usize
-    requires { ⌜ (length (now w) ≡ 20480) × (p < 16) × Bounds (view (now w)) ⌝ }
-    ensures { λ r. ⌜ Reads (now (w .entry)) r (λ s. found alone owed s p q) ⌝ }
+// Message i, or the lowest message that p can deliver in FIFO order, or the count, if it is to be looked for. Where all
+// ready messages have the sender of i, the others are not looked at.
+fn choose(w: &[u16], p: usize, i: usize, alone: bool, look: bool) -> usize
+    requires { ⌜ (length (now w) ≡ 20480) × (p < 16) × (i < 64) × Bounds (view (now w)) ⌝ }
+    ensures { λ r. ⌜ Reads (now (w .entry)) r (λ s. choice alone look s p i) ⌝ }
 {
-    if alone & !owed {
-        return cells::word(w, cells::COUNT);
+    if !look {
+        return i;
     }
+    let q = cells::word(w, cells::MESSAGES + i * cells::MESSAGE);
     ready::first_ready(w, p, q, alone)
 }
 
-// Message m delivered in FIFO order, with all that follows in its turn; the lowest that is ready then, or the count.
-fn turn(w: &mut [u16], p: usize, m: usize, alone: bool) -> usize
-    requires { ⌜ (length (now w) ≡ 20480) × (p < 16) × (m < 64) × Bounds (view (now w)) × (view (now w) (fifo-length p) < view (now w) count) × OneSenderIf alone (view (now w)) p m ⌝ }
-    ensures next { λ r. ⌜ Reads (now (w .entry)) r (λ s. lowest p (fifo-one s p m)) ⌝ }
-    ensures words { λ _. ⌜ (length (now (w .exit)) ≡ 20480) × Changes (now (w .entry)) (now (w .exit)) (λ s. fifo-one s p m) ⌝ }
-{
-    let q = cells::word(w, cells::MESSAGES + m * cells::MESSAGE);
-    let owed = fifo_one(w, p, m);
-    next_ready(w, p, q, alone, owed)
-}
-
-// The cascade at p from the lowest ready message, or the count, on. Who knows that all ready messages have one sender
-// says so, and spares the search among the others.
-pub fn cascade_from(w: &mut [u16], p: usize, first: usize, alone: bool)
-    requires { ⌜ (length (now w) ≡ 20480) × (p < 16) × Bounds (view (now w)) × Reads (now w) first (λ s. lowest p s) × OneSenderIf alone (view (now w)) p first ⌝ }
+// The cascade at p. Who knows that message m is the lowest that is ready, and that all that are have its sender, says so:
+// then m is delivered first, others of its sender are looked for only after a turn that owed an OK, and no more.
+pub fn cascade_from(w: &mut [u16], p: usize, m: usize, alone: bool)
+    requires { ⌜ (length (now w) ≡ 20480) × (p < 16) × (m < 64) × Bounds (view (now w)) × KnownIf alone (view (now w)) p m ⌝ }
     ensures { λ _. ⌜ (length (now (w .exit)) ≡ 20480) × Changes (now (w .entry)) (now (w .exit)) (λ s. cascade s p) ⌝ }
 {
     let n = cells::word(w, cells::COUNT);
@@ -79,21 +68,25 @@ pub fn cascade_from(w: &mut [u16], p: usize, first: usize, alone: bool)
         cells::PROCESSES + p * cells::PROCESS + cells::FIFO_LENGTH,
     );
     let mut left: usize = n - k;
-    let mut m = first;
+    let mut i = m;
+    let mut look = !alone;
     while 0 < left {
-        if n <= m {
+        i = choose(w, p, i, alone, look);
+        if n <= i {
             return;
         }
-        m = turn(w, p, m, alone);
+        look = fifo_one(w, p, i) | !alone;
+        if !look {
+            return;
+        }
         left -= 1;
     }
 }
 
-// The cascade at p.
+// The cascade at p, where nothing is known.
 pub fn cascade_all(w: &mut [u16], p: usize)
     requires { ⌜ (length (now w) ≡ 20480) × (p < 16) × Bounds (view (now w)) ⌝ }
     ensures { λ _. ⌜ (length (now (w .exit)) ≡ 20480) × Changes (now (w .entry)) (now (w .exit)) (λ s. cascade s p) ⌝ }
 {
-    let m = ready::first_ready(w, p, 0, false);
-    cascade_from(w, p, m, false);
+    cascade_from(w, p, 0, false);
 }

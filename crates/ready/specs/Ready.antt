@@ -1,5 +1,5 @@
 -- The test "ready" of the cascade, read off words, in the code's order, and quiescent processes. Assumes nothing.
-use mathlib.Core.Path.{_≡_, refl, sym, ap, ap₂, _∙_}
+use mathlib.Core.Path.{_≡_, refl, sym, ap, ap₂, _∙_, subst}
 use mathlib.Core.Bool.{Bool, true, false, not, _&&_}
 use mathlib.Core.List.{List}
 use Prim.Native.Nat.{ℕ, _≤_, _<_}
@@ -17,7 +17,7 @@ use Rattle.world.specs.Layout.{get-encode, reads-cell}
 use Rattle.world.specs.Machine.{addressed, addressees, in-turn, outside-fifo, marked, ready, fifo-one}
 use Rattle.bounds.specs.Bounds.{Bounds, bounds-state}
 use Rattle.quiescence.specs.Quiescent.{Quiescent}
-use Rattle.quiescence.specs.Turn.{OneSenderIf}
+use Rattle.quiescence.specs.Turn.{OneSender, OneSenderIf}
 use Rattle.masks.specs.Ones.{count-only}
 use Rattle.sends.specs.Sends.{addressed-words, in-turn-words}
 
@@ -235,7 +235,7 @@ looked-lowest true s p q h =
     go x true e f = rw (eq-eqb (s (sender x)) q (sym (f e))) refl
     go x false e f = fourth (eqb (s (sender x)) q)
 
--- the lowest in one state that words hold is the lowest in all
+-- the lowest in the words of s is the lowest in s
 lowest-words : (w : List ℕ) (s : State) (p : ℕ) → w ≡ encode s → Bounds (view w) → p < 16
     → lowest p (view w) ≡ lowest p s
 unfolding chosen
@@ -245,6 +245,28 @@ lowest-words w s p e h hp =
     (λ x _ l. ap (λ (y : List ℕ). ready (view y) p x) e ∙ ready-words s b p x hp (omega (arith, h .counts)))
     ∙ ap (λ (n : ℕ). first-from n 0 (ready s p)) (reads-cell w count tt s e)
 
-pub lowest-law : (w : List ℕ) (t : State) (p : ℕ) {m : ℕ} → w ≡ encode t → Bounds (view w) → p < 16
-    → m ≡ lowest p t → Reads w m (λ s. lowest p s)
-lowest-law w t p e h hp em s q = em ∙ sym (lowest-words w t p e h hp) ∙ lowest-words w s p q h hp
+-- ---- what is known of m: it is the lowest that is ready, and all that are ready have its sender
+pub record Known (s : State) (p m : ℕ) : Type 0 where
+  pub first : m ≡ lowest p s
+  pub same : OneSender s p m
+
+-- what a caller may know
+abbrev pub KnownIf : Bool → State → ℕ → ℕ → Type 0
+KnownIf true s p m = Known s p m
+KnownIf false s p m = Unit {0}
+
+pub known-state : (b : Bool) (w : List ℕ) (s : State) (p m : ℕ) → w ≡ encode s → Bounds (view w) → p < 16 → m < 64
+    → KnownIf b (view w) p m → KnownIf b s p m
+known-state true w s p m e h hp hm k = record {
+  first = k .first ∙ lowest-words w s p e h hp;
+  same = sender-state true w s p m e h hp hm (k .same);
+}
+known-state false w s p m e h hp hm k = tt
+
+pub known-words : (w : List ℕ) (s : State) (p m : ℕ) → w ≡ encode s → Bounds (view w) → p < 16 → m < 64
+    → Known s p m → Known (view w) p m
+known-words w s p m e h hp hm k = record {
+  first = k .first ∙ sym (lowest-words w s p e h hp);
+  same = subst (λ (x : List ℕ). OneSender (view x) p m) (sym e)
+      (sender-words true s p m (bounds-state w s e h) hp hm (k .same));
+}

@@ -1,21 +1,19 @@
 -- `arrivals::arrive` meets its contract. Assumes nothing.
-use mathlib.Core.List.{List}
-use mathlib.Core.Bool.{true}
-use mathlib.Core.Path.{_≡_, sym, ap, _∙_, subst}
-use Prim.Native.Nat.{ℕ}
+use mathlib.Core.Path.{_≡_, sym, ap, _∙_}
+use Prim.Native.Nat.{_<_}
 use native.Mathlib.Omega.{arith}
 use borrow.Author.Needs.{needs}
 use borrow.Author.Tests.{not-true, not-false}
 use Rattle.base.specs.Loop.{chosen}
 use Rattle.world.specs.Layout.{encode-view}
 use Rattle.world.specs.Machine.{leave, mark, arrival}
-use Rattle.world.specs.World.{State, encode, view}
+use Rattle.world.specs.World.{count, State, encode, view}
 use Rattle.bounds.specs.Bounds.{Bounds, bounds-words}
 use Rattle.keeps.specs.Cascade.{received}
 use Rattle.receiving.specs.Receiving.{bounds-marked, bounds-hold}
 use Rattle.quiescence.specs.Quiescent.{Quiescent, received-count, received-only}
-use Rattle.quiescence.specs.Turn.{OneSender, only-lowest, only-sender}
-use Rattle.ready.specs.Ready.{lowest-law, sender-words}
+use Rattle.quiescence.specs.Turn.{only-lowest, only-sender}
+use Rattle.ready.specs.Ready.{known-words}
 use Rattle.arrivals.specs.Arrival.{received-law, is-quiescent, over-law, mark-only}
 use Rattle.arrivals.proofs.arrive.Statement.{statement}
 use Rattle.arrivals.proofs.arrive.Tie as tie
@@ -146,27 +144,26 @@ returns-2 c =
     )
 
 cascade-from-requires : tie.Need-cascade-from-requires
-unfolding received-from held-from chosen
+unfolding received-from chosen
 cascade-from-requires c κs =
     let r = c .before .before in
     let h = r .before .before .before .before .before in
-    let m = h .before .before .before .before in
     let b = h .before .before .before .before .before .before .before .before .before .before .before in
     let a = b .args in
-    let u = h .take-hold .last .0 in
     let only = received-only (a .k) (a .m) (a .q) (a .p) (view (a .w .now)) (quiet (r .before .before)) in
-    let bounds = bounds-hold (held-from m) (a .p) (a .m) (marked-bounds m) in (
+    let low : a .m < received-from h count = omega (arith, received-count (a .k) (a .m) (a .q) (a .p) (view (a .w .now)), b .pre .7) in
+    let it = sym (r .is-ready .ensures (received-from h) (received-words h))
+    ∙ not-false (r .is-ready .result) (c .before .if2 .left) in (
       h .take-hold .ensures .1 .0,
       b .pre .4,
+      b .pre .2,
       received-bounds h,
-      lowest-law u (received-from h) (a .p) (received-words h) (received-bounds h) (b .pre .4)
-          (sym (only-lowest (received-from h) (a .p) (a .m) only
-          (omega (arith, received-count (a .k) (a .m) (a .q) (a .p) (view (a .w .now)), b .pre .7))
-          (sym (r .is-ready .ensures (received-from h) (received-words h))
-          ∙ not-false (r .is-ready .result) (c .before .if2 .left)))),
-      subst (λ (x : List ℕ). OneSender (view x) (a .p) (a .m)) (sym (received-words h))
-          (sender-words true (received-from h) (a .p) (a .m) bounds (b .pre .4) (b .pre .2)
-          (only-sender (received-from h) (a .p) (a .m) only)),
+      known-words (h .take-hold .last .0) (received-from h) (a .p) (a .m) (received-words h) (received-bounds h)
+          (b .pre .4) (b .pre .2)
+          (record {
+            first = sym (only-lowest (received-from h) (a .p) (a .m) only low it);
+            same = only-sender (received-from h) (a .p) (a .m) only;
+          }),
     )
 
 same-length-3 : tie.Need-same-length-3
