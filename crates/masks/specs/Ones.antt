@@ -1,9 +1,7 @@
 -- The machine's counts of bits are those of a mask as a set of the numbers below 16: the ones are its
--- members, the trailing zeros its lowest member; and a mask lies in another if the members that they share are as many
--- as its own. Assumes nothing.
+-- members, the trailing zeros its lowest member. Assumes nothing.
 use mathlib.Core.Path.{_≡_, refl, sym, ap, ap₂, _∙_}
-use mathlib.Core.Bool.{Bool, true, false, not}
-use mathlib.Core.Logic.{_⊎_, inl, inr}
+use mathlib.Core.Bool.{Bool, true, false}
 use Prim.Native.Nat.{ℕ, zero, suc, _+_, _/_, _%_, _^_, _<_}
 use native.Mathlib.Nat.{mod-lt, div-one, not-suc-le-zero, le-of-suc-le-suc}
 use native.Mathlib.Numerals.{add-one}
@@ -11,13 +9,11 @@ use native.Mathlib.Omega.{arith}
 use lib.Arith.{lt-one}
 use lib.Pow.{shr-shr, shr-lt}
 use lib.Dec.{eqb, lit<}
-use lib.Bits.{bitAnd}
-use borrow.Author.Tests.{eq-eqb, ne-eqb}
 use lib.Count.{ones, onesIn, ones-step, trailingZeros, under}
-use Rattle.base.specs.Tests.{bool-cases, clash, both, both-l, either, pick}
-use Rattle.base.specs.Search.{first-from, every-false}
-use Rattle.base.specs.Count.{tally, tally-cong, tally-falls}
-use Rattle.base.specs.Bits.{bit, bit-and, only, only-e}
+use Rattle.base.specs.Tests.{pick}
+use Rattle.base.specs.Search.{first-from}
+use Rattle.base.specs.Count.{tally, tally-cong}
+use Rattle.base.specs.Bits.{bit}
 
 -- a binary digit is 1 or 0
 digit : (d : ℕ) → d < 2 → d ≡ pick (eqb d 1) 1 0
@@ -93,34 +89,3 @@ trailing-lowest m =
     let e : 0 + trailingZeros 16 (m / 1) ≡ first-from 16 0 (bit m) = from-trailing 16 0 m in
     let f : trailingZeros 16 (m / 1) ≡ trailingZeros 16 m = ap (trailingZeros 16) (div-one m) in
     omega arith
-
--- ---- the members of a that b has are as many as a's members exactly when b has them all
-neither : (x y : Bool) → either (not x) y ≡ false → (x ≡ true) × (y ≡ false)
-neither true false e = (refl, refl)
-neither true true e = clash refl e
-neither false y e = clash refl e
-
-pub count-only : (a b : ℕ) → eqb (tally 16 (bit (bitAnd a b))) (tally 16 (bit a)) ≡ only 16 a (bit b)
-unfolding only
-count-only a b = go (bool-cases (only 16 a (bit b)))
-  where
-    all : only 16 a (bit b) ≡ true → (i : ℕ) → i < 16 → bit (bitAnd a b) i ≡ bit a i
-    all e i h = bit-and a b i ∙ kept (bit a i) (bit b i) (only-e 16 a (bit b) e i h)
-      where
-        kept : (x y : Bool) → (x ≡ true → y ≡ true) → both x y ≡ x
-        kept true y f = f refl
-        kept false y f = refl
-
-    fewer : (i : ℕ) × (i < 16) × (either (not (bit a i)) (bit b i) ≡ false)
-        → tally 16 (bit (bitAnd a b)) < tally 16 (bit a)
-    fewer t =
-        let n = neither (bit a (t .0)) (bit b (t .0)) (t .2) in
-        tally-falls 16 (bit a) (bit (bitAnd a b)) (λ i e. both-l (bit a i) (bit b i) (sym (bit-and a b i) ∙ e)) (t .0) (t .1)
-        (n .0) (bit-and a b (t .0) ∙ ap₂ both (n .0) (n .1))
-
-    go : (only 16 a (bit b) ≡ true) ⊎ (only 16 a (bit b) ≡ false)
-        → eqb (tally 16 (bit (bitAnd a b))) (tally 16 (bit a)) ≡ only 16 a (bit b)
-    go (inl e) = eq-eqb (tally 16 (bit (bitAnd a b))) (tally 16 (bit a)) (tally-cong 16 (bit (bitAnd a b)) (bit a) (all e)) ∙ sym e
-    go (inr e) =
-        let l = fewer (every-false 16 (λ i. either (not (bit a i)) (bit b i)) e) in
-        ne-eqb (tally 16 (bit (bitAnd a b))) (tally 16 (bit a)) (λ z. omega arith) ∙ sym e

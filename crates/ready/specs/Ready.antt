@@ -2,15 +2,17 @@
 use mathlib.Core.Path.{_≡_, refl, sym, ap, ap₂, _∙_, subst}
 use mathlib.Core.Bool.{Bool, true, false, not, _&&_}
 use mathlib.Core.List.{List}
-use Prim.Native.Nat.{ℕ, _≤_, _<_}
+use Prim.Native.Nat.{ℕ, zero, suc, _≤_, _<_}
 use native.Mathlib.Omega.{arith}
 use lib.Bits.{bitAnd, bitXor}
 use lib.Dec.{eqb}
-use borrow.Author.Tests.{eq-eqb, ne-eqb}
-use Rattle.base.specs.Tests.{clash, same, both, both-l, both-r, either}
-use Rattle.base.specs.Bits.{bit, only, differs, bit-and, bit-xor, bit-mask-of, mask-of-member, only-e, only-i}
+use borrow.Author.Tests.{eqb-true, eq-eqb, ne-eqb}
+use native.Mathlib.Decide.{ℕ-discrete}
+use mathlib.Core.Logic.{_⊎_, inl, inr}
+use Rattle.base.specs.Tests.{bool-cases, clash, same, both, either}
+use Rattle.base.specs.Bits.{bit, differs, bit-and, bit-xor, bit-mask-of, bit-mask-of-above}
 use Rattle.base.specs.Search.{every, every-true, every-intro, every-fails, every-cong, first-from, first-law, first-cong}
-use Rattle.base.specs.Count.{tally, absent}
+use Rattle.base.specs.Count.{tally, tally-zero, tally-cong, tally-pos, absent}
 use Rattle.base.specs.Loop.{chosen}
 use Rattle.world.specs.World.{size, count, trust, fifo-length, held, marks, fifo, sender, State, encode, view, Reads}
 use Rattle.world.specs.Layout.{get-encode, reads-cell}
@@ -18,7 +20,6 @@ use Rattle.world.specs.Machine.{addressed, addressees, in-turn, outside-fifo, m
 use Rattle.bounds.specs.Bounds.{Bounds, bounds-state}
 use Rattle.quiescence.specs.Quiescent.{Quiescent}
 use Rattle.quiescence.specs.Turn.{OneSender, OneSenderIf}
-use Rattle.masks.specs.Ones.{count-only}
 use Rattle.sends.specs.Sends.{addressed-words, in-turn-words}
 
 -- ---- what the test reads off the words of s is so of s
@@ -90,6 +91,20 @@ sender-state false w s p m q h hp hm a = tt
 abbrev pub Waits : State → ℕ → ℕ → Bool → Type 0
 Waits s p m r = r ≡ true → every (s size) (marked s p m) ≡ false
 
+-- q is a trusted addressee of m of which p has no mark
+abbrev pub unmarked : State → ℕ → ℕ → ℕ → Bool
+unmarked s p m q = not (marked s p m q)
+
+-- a count past the last that passes
+tally-past : (k n : ℕ) (f : ℕ → Bool) → n ≤ k → ((i : ℕ) → n ≤ i → f i ≡ false) → tally k f ≡ tally n f
+unfolding tally
+tally-past zero n f h e = let z : 0 ≡ n = omega arith in ap (λ (j : ℕ). tally j f) z
+tally-past (suc k) n f h e = go (ℕ-discrete n (suc k)) (λ l. tally-past k n f l e)
+  where
+    go : Dec (n ≡ suc k) → (n ≤ k → tally k f ≡ tally n f) → tally (suc k) f ≡ tally n f
+    go (yes d) ih = ap (λ (j : ℕ). tally j f) (sym d)
+    go (no d) ih = rw (e k (omega arith)) (ih (omega arith))
+
 module _ (s : State) (p m : ℕ) {t k : ℕ} (et : t ≡ s (trust p)) (ek : k ≡ s (marks p m)) where
   -- whether q's mark is there, by the two masks
   marked-masks : (q : ℕ) → either (not (both (bit t q) (addressed s m q))) (bit k q) ≡ marked s p m q
@@ -112,34 +127,51 @@ module _ (s : State) (p m : ℕ) {t k : ℕ} (et : t ≡ s (trust p)) (ek : k �
       lacks true true a e f = clash e refl
       lacks false k a e f = clash e refl
 
-  -- the addressees a that p trusts, and those of them of which it has a mark, are as many
-  pub all-marked : {a x y : ℕ} {r : Bool} → s size ≤ 16 → a ≡ addressees s m
-      → x ≡ tally 16 (bit (bitAnd (bitAnd a t) k)) → y ≡ tally 16 (bit (bitAnd a t)) → r ≡ eqb x y
-      → r ≡ every (s size) (marked s p m)
-  all-marked {a} h ea ex ey er =
-      er ∙ ap₂ eqb ex ey ∙ count-only (bitAnd a t) k
-      ∙ same (only 16 (bitAnd a t) (bit k)) (every (s size) (marked s p m))
-      (λ e. every-intro (s size) (marked s p m) (λ q l. there q l (only-e 16 (bitAnd a t) (bit k) e q (omega arith))))
-      (λ e. only-i 16 (bitAnd a t) (bit k) (λ q _ b. has q b (every-true (s size) (marked s p m) e q)))
+  -- the addressees a that p trusts and has no mark of are counted
+  pub missing-count : {a r : ℕ} → s size ≤ 16 → a ≡ addressees s m
+      → r ≡ tally 16 (bit (bitAnd (bitAnd a t) (bitXor (bitAnd a t) k))) → r ≡ tally (s size) (unmarked s p m)
+  missing-count {a} h ea er =
+      er
+      ∙ tally-past 16 (s size) (bit x) h
+      (λ q l. bits q ∙ ap (λ (b : Bool). lacks (both b (bit t q)) (bit k q))
+      (ap (λ (y : ℕ). bit y q) ea ∙ bit-mask-of-above (s size) (addressed s m) q l))
+      ∙ tally-cong (s size) (bit x) (unmarked s p m)
+      (λ q l. bits q ∙ ap (λ (b : Bool). lacks (both b (bit t q)) (bit k q))
+      (ap (λ (y : ℕ). bit y q) ea ∙ bit-mask-of (s size) (addressed s m) q l)
+      ∙ turned (addressed s m q) (bit t q) (bit k q) ∙ ap not (marked-masks q))
     where
-      there : (q : ℕ) → q < s size → (bit (bitAnd a t) q ≡ true → bit k q ≡ true) → marked s p m q ≡ true
-      there q l f =
-          sym (marked-masks q) ∙ go (bit t q) (addressed s m q) (bit k q)
-          (λ d b. f (bit-and a t q
-          ∙ ap₂ both (ap (λ (x : ℕ). bit x q) ea ∙ bit-mask-of (s size) (addressed s m) q l ∙ d) b))
-        where
-          go : (t a k : Bool) → (a ≡ true → t ≡ true → k ≡ true) → either (not (both t a)) k ≡ true
-          go true true k g = g refl refl
-          go true false k g = refl
-          go false a k g = refl
+      x : ℕ
+      x = bitAnd (bitAnd a t) (bitXor (bitAnd a t) k)
 
-      has : (q : ℕ) → bit (bitAnd a t) q ≡ true → (q < s size → marked s p m q ≡ true) → bit k q ≡ true
-      has q b f =
-          let d = sym (bit-and a t q) ∙ b in
-          let i = mask-of-member (s size) (addressed s m) q
-          (ap (λ (x : ℕ). bit x q) (sym ea) ∙ both-l (bit a q) (bit t q) d) in
-          sym (ap₂ (λ (x y : Bool). either (not (both x y)) (bit k q)) (both-r (bit a q) (bit t q) d) (i .1))
-          ∙ marked-masks q ∙ f (i .0)
+      lacks : Bool → Bool → Bool
+      lacks b c = both b (differs b c)
+
+      bits : (q : ℕ) → bit x q ≡ lacks (both (bit a q) (bit t q)) (bit k q)
+      bits q =
+          bit-and (bitAnd a t) (bitXor (bitAnd a t) k) q
+          ∙ ap (both (bit (bitAnd a t) q)) (bit-xor (bitAnd a t) k q)
+          ∙ ap (λ (b : Bool). lacks b (bit k q)) (bit-and a t q)
+
+      turned : (d b c : Bool) → lacks (both d b) c ≡ not (either (not (both b d)) c)
+      turned true true true = refl
+      turned true true false = refl
+      turned true false c = refl
+      turned false true c = refl
+      turned false false c = refl
+
+-- none is missing
+pub none-missing : (s : State) (p m : ℕ) {x : ℕ} → x ≡ tally (s size) (unmarked s p m)
+    → eqb x 0 ≡ every (s size) (marked s p m)
+none-missing s p m {x} ex =
+    same (eqb x 0) (every (s size) (marked s p m))
+    (λ e. every-intro (s size) (marked s p m) (λ q l. there q l (eqb-true x 0 e) (bool-cases (marked s p m q))))
+    (λ e. eq-eqb x 0 (ex ∙ tally-zero (s size) (unmarked s p m)
+    (λ q l. ap not (every-true (s size) (marked s p m) e q l))))
+  where
+    there : (q : ℕ) → q < s size → x ≡ 0 → (marked s p m q ≡ true) ⊎ (marked s p m q ≡ false) → marked s p m q ≡ true
+    there q l z (inl e) = e
+    there q l z (inr e) =
+        let y = tally-pos (s size) (unmarked s p m) q l (ap not e) in absurd (omega (arith, ex))
 
 -- ---- the four tests
 none : (a b c d : Bool) → both (both a b) c ≡ false → false ≡ both (both (both a b) c) d

@@ -4,10 +4,11 @@ ghost use mathlib.Core.Path.{_≡_};
 ghost use Prim.Native.Nat.{_<_};
 ghost use lib.ListN.{length};
 ghost use Rattle.base.specs.Search.{every, first-from};
+ghost use Rattle.base.specs.Count.{tally};
 ghost use Rattle.world.specs.World.{size, count, trust, marks, view, Reads};
 ghost use Rattle.world.specs.Machine.{marked, ready};
 ghost use Rattle.bounds.specs.Bounds.{Bounds};
-ghost use Rattle.ready.specs.Ready.{Waits, searched};
+ghost use Rattle.ready.specs.Ready.{Waits, unmarked, searched};
 
 // The processes that p trusts.
 fn trusted(w: &[u16], p: usize) -> u16
@@ -38,8 +39,16 @@ fn waits_for_lowest(w: &[u16], p: usize, m: usize) -> bool
     false
 }
 
-// Whether p waits for no mark for message m. The addressees that it trusts are counted, and those of them of which it
-// has a mark: these must be as many.
+// How many of the addressees of message m that p trusts it has no mark of.
+fn missing(w: &[u16], p: usize, m: usize) -> u32
+    requires { ⌜ (length (now w) ≡ 20480) × (p < 16) × (m < 64) × Bounds (view (now w)) ⌝ }
+    ensures { λ r. ⌜ r ≡ tally (view (now (w .entry)) size) (unmarked (view (now (w .entry))) p m) ⌝ }
+{
+    let a = sends::addressees_of(w, m) & trusted(w, p);
+    masks::count(a & (a ^ marks_of(w, p, m)))
+}
+
+// Whether p waits for no mark for message m.
 fn marked_all(w: &[u16], p: usize, m: usize) -> bool
     requires { ⌜ (length (now w) ≡ 20480) × (p < 16) × (m < 64) × Bounds (view (now w)) ⌝ }
     ensures { λ r. ⌜ r ≡ every (view (now (w .entry)) size) (marked (view (now (w .entry))) p m) ⌝ }
@@ -47,8 +56,7 @@ fn marked_all(w: &[u16], p: usize, m: usize) -> bool
     if waits_for_lowest(w, p, m) {
         return false;
     }
-    let a = sends::addressees_of(w, m) & trusted(w, p);
-    masks::count(a & marks_of(w, p, m)) == masks::count(a)
+    missing(w, p, m) == 0
 }
 
 // Whether p can deliver message m in FIFO order.
