@@ -191,7 +191,10 @@ fn of_letter(w: &[u16], k: usize, m: usize, q: usize, p: usize, lost: bool) -> O
     if !flies(w, k, m, q, p) {
         return Outcome::Refused(Refusal::NotInFlight);
     }
-    if lost & are_live(w, q, p) {
+    if !lost {
+        return Outcome::Taken;
+    }
+    if are_live(w, q, p) {
         return Outcome::Refused(Refusal::BothUp);
     }
     Outcome::Taken

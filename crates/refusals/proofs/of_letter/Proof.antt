@@ -83,11 +83,6 @@ returns-3 c =
     rest (e .before .before)
     (passes 9 _ (received e) (fails 11 _ (sym (f .ensures) ∙ not-true (f .result) (c .if2 .taken))))
 
-are-live-requires : tie.Need-are-live-requires
-are-live-requires c κs =
-    let t = c .before .before .before .before in
-    (t .before .before .before .before .pre .0, low t .2, low t .3)
-
 -- the last test decides
 last : (c : tie.Else2) {x : ℕ}
     → let a = c .before .before .before .before .before .before .before .before .args in
@@ -102,11 +97,25 @@ last c h =
 
 returns-4 : tie.Need-returns-4
 returns-4 c =
-    last (c .before .before) (fails 12 0 (ap not (rw (c .before .are-live .ensures) at (c .if3 .taken))))
+    let a = c .before .before .before .before .before .before .before .before .before .args in
+    last (c .before) (rw (not-true (a .lost) (c .if3 .taken)))
+
+are-live-requires : tie.Need-are-live-requires
+are-live-requires c κs =
+    let t = c .before .before .before .before .before in
+    (t .before .before .before .before .pre .0, low t .2, low t .3)
 
 returns-5 : tie.Need-returns-5
 returns-5 c =
-    last (c .before .before) (passes 12 0 (ap not (rw (c .before .are-live .ensures) at (c .if3 .left))) refl)
+    let e = c .before .before in
+    let a = e .before .before .before .before .before .before .before .before .before .args in
+    last (e .before) (rw (not-false (a .lost) (e .if3 .left), ← c .before .are-live .ensures, c .if4 .taken))
+
+returns-6 : tie.Need-returns-6
+returns-6 c =
+    let e = c .before .before in
+    let a = e .before .before .before .before .before .before .before .before .before .args in
+    last (e .before) (rw (not-false (a .lost) (e .if3 .left), ← c .before .are-live .ensures, c .if4 .left))
 
 pub of-letter-spec : {M : Type 1} → statement M
 of-letter-spec =
@@ -120,6 +129,7 @@ of-letter-spec =
     returns-2
     flies-requires
     returns-3
-    are-live-requires
     returns-4
-    returns-5)
+    are-live-requires
+    returns-5
+    returns-6)
