@@ -12,9 +12,11 @@ use Rattle.base.specs.Bits.{bit, only}
 use Rattle.world.specs.World.{size, count, State}
 use Rattle.base.specs.Refusals.{needs, or-else, needs-none}
 use Rattle.world.specs.Steps.{has-group, good-mask, is-process, is-message, is-up, in-flight, refusal, multicasts, arrives, loses}
-use Rattle.world.specs.Answers.{refusal-number}
+use Rattle.world.specs.Answers.{refusal-number, outcome-number}
 use Rattle.world.specs.declared.Refusal.{Refusal}
 use Rattle.world.specs.declared.Refusal.the-variants.{WorldLength, WorldUnsound, BadSetup, Malformed, NoProcess, BadMask, NoMessage, BadTrust, Down, Full, NotInFlight, BothUp}
+use Rattle.world.specs.declared.Outcome.{Outcome}
+use Rattle.world.specs.declared.Outcome.the-variants.{Taken, Refused}
 use Rattle.bounds.specs.Bounds.{Bounds}
 
 -- the test fails, or passes and what follows decides
@@ -90,14 +92,20 @@ below-power x n = go (ltb x (2 ^ n)) refl
 
 -- ---- tests in front of others
 -- where they refuse, they refuse whatever comes after
-pub front-refused : {first : ℕ} (rest : ℕ) (r : Refusal) → refusal-number r ≡ first
+pub front-refused : {o : Outcome} {first : ℕ} (rest : ℕ) (r : Refusal) → o ≡ Refused r → outcome-number o ≡ first
     → refusal-number r ≡ or-else first rest
-front-refused {first} rest r e =
+front-refused {o} {first} rest r t h =
+    let e : refusal-number r ≡ first = ap outcome-number (sym t) ∙ h in
     e ∙ sym (ap (λ (b : Bool). pick b rest first) (ne-eqb first 0 (λ z. refusal-some r (e ∙ z))))
 
 -- where they do not, what comes after decides
-pub front-taken : {first x : ℕ} (rest : ℕ) → 0 ≡ first → x ≡ rest → x ≡ or-else first rest
-front-taken {first} rest z e = e ∙ sym (ap (λ (b : Bool). pick b rest first) (eq-eqb first 0 (sym z)))
+pub none-first : {o : Outcome} {first : ℕ} → o ≡ Taken → outcome-number o ≡ first → first ≡ 0
+none-first t h = sym (ap outcome-number (sym t) ∙ h)
+
+pub front-taken : {o : Outcome} {first x : ℕ} (rest : ℕ) → o ≡ Taken → outcome-number o ≡ first → x ≡ rest
+    → x ≡ or-else first rest
+front-taken {o} {first} rest t h e =
+    e ∙ sym (ap (λ (b : Bool). pick b rest first) (eq-eqb first 0 (none-first t h)))
 
 -- three tests in front
 stays : (n rest : ℕ) → or-else (suc n) rest ≡ suc n
@@ -128,10 +136,11 @@ operands-refusal s k m q p =
     needs 4 (ltb k 3) (needs 5 (is-process s q && is-process s p) (needs 7 (is-message s m) 0))
 
 -- those that are not refused are within the layout
-pub operands-low : (s : State) (k m q p : ℕ) → Bounds s → operands-refusal s k m q p ≡ 0
+pub operands-low : (s : State) (k m q p : ℕ) {o : Outcome} → Bounds s → o ≡ Taken
+    → outcome-number o ≡ operands-refusal s k m q p
     → (k < 3) × (m < 64) × (q < 16) × (p < 16)
-operands-low s k m q p h e =
-    let a = needs-none 3 (ltb k 3) _ e in
+operands-low s k m q p h t e =
+    let a = needs-none 3 (ltb k 3) _ (none-first t e) in
     let b = needs-none 4 (is-process s q && is-process s p) _ (a .1) in
     let x = ltb-true k 3 (a .0) in
     let y = ltb-true m (s count) (needs-none 6 (is-message s m) 0 (b .1) .0) in

@@ -106,7 +106,7 @@ fn are_processes(set: u16, n: usize) -> bool
     cells::wide(set) >> n == 0
 }
 
-// The process of a multicast, trust or crash step: 5, the refusal of a mask that is not good, then 9.
+// The process and the mask of a multicast or trust step: 5, the refusal of a mask that is not good, then 9.
 fn of_process(w: &[u16], p: usize, good: bool, mask: Refusal) -> Outcome
     requires { ⌜ (length (now w) ≡ 20480) × Bounds (view (now w)) ⌝ }
     ensures { λ r. ⌜ outcome-number r ≡ process-refusal (view (now (w .entry))) p good (refusal-number mask) ⌝ }
@@ -147,12 +147,18 @@ pub fn of_trust(w: &[u16], p: usize, set: u16) -> Outcome
     of_process(w, p, good, Refusal::BadTrust)
 }
 
-// A crash of p: it names no mask.
+// A crash of p.
 pub fn of_crash(w: &[u16], p: usize) -> Outcome
     requires { ⌜ (length (now w) ≡ 20480) × Bounds (view (now w)) ⌝ }
     ensures { λ r. ⌜ outcome-number r ≡ refusal (view (now (w .entry))) (crashes p) ⌝ }
 {
-    of_process(w, p, true, Refusal::BadMask)
+    if cells::word(w, cells::SIZE) <= p {
+        return Outcome::Refused(Refusal::NoProcess);
+    }
+    if !is_live(w, p) {
+        return Outcome::Refused(Refusal::Down);
+    }
+    Outcome::Taken
 }
 
 // The operands of an arrival or a loss: 4, 5, then 7.
@@ -178,7 +184,7 @@ fn of_operands(w: &[u16], k: usize, m: usize, q: usize, p: usize) -> Outcome
 
 // The loss of a letter, or else its arrival. Only an arrival asks that the receiver is up, only a loss that an
 // end is down.
-fn of_letter(w: &[u16], k: usize, m: usize, q: usize, p: usize, lost: bool) -> Outcome
+pub fn of_letter(w: &[u16], k: usize, m: usize, q: usize, p: usize, lost: bool) -> Outcome
     requires { ⌜ (length (now w) ≡ 20480) × Bounds (view (now w)) ⌝ }
     ensures { λ r. ⌜ outcome-number r ≡ refusal (view (now (w .entry))) (pick lost (loses k m q p) (arrives k m q p)) ⌝ }
 {
@@ -191,27 +197,8 @@ fn of_letter(w: &[u16], k: usize, m: usize, q: usize, p: usize, lost: bool) -> O
     if !flies(w, k, m, q, p) {
         return Outcome::Refused(Refusal::NotInFlight);
     }
-    if !lost {
-        return Outcome::Taken;
-    }
-    if are_live(w, q, p) {
+    if lost & are_live(w, q, p) {
         return Outcome::Refused(Refusal::BothUp);
     }
     Outcome::Taken
-}
-
-// The arrival of a letter.
-pub fn of_arrival(w: &[u16], k: usize, m: usize, q: usize, p: usize) -> Outcome
-    requires { ⌜ (length (now w) ≡ 20480) × Bounds (view (now w)) ⌝ }
-    ensures { λ r. ⌜ outcome-number r ≡ refusal (view (now (w .entry))) (arrives k m q p) ⌝ }
-{
-    of_letter(w, k, m, q, p, false)
-}
-
-// The loss of a letter.
-pub fn of_loss(w: &[u16], k: usize, m: usize, q: usize, p: usize) -> Outcome
-    requires { ⌜ (length (now w) ≡ 20480) × Bounds (view (now w)) ⌝ }
-    ensures { λ r. ⌜ outcome-number r ≡ refusal (view (now (w .entry))) (loses k m q p) ⌝ }
-{
-    of_letter(w, k, m, q, p, true)
 }

@@ -1,5 +1,5 @@
 -- `refusals::of_multicast` meets its contract. Assumes nothing.
-use mathlib.Core.Path.{_≡_, refl, sym, ap, _∙_}
+use mathlib.Core.Path.{_≡_, refl, _∙_}
 use Prim.Native.Nat.{ℕ}
 use native.Mathlib.Omega.{arith}
 use lib.Dec.{ltb}
@@ -34,7 +34,7 @@ returns c =
     let x = c .before .r .given in
     let o = c .before .before .before in
     let a = o .before .before .before .args in
-    front-refused _ (x .0 .0) (ap outcome-number (sym (x .1)) ∙ said o)
+    front-refused _ (x .0 .0) (x .1) (said o)
     ∙ multicast-front (view (a .w .now)) (a .p) (a .groups)
 
 enum-told : tie.Need-enum-told
@@ -50,7 +50,7 @@ room : (c : tie.After-enum-told) {x : ℕ}
 room c e =
     let o = c .before .before in
     let a = o .before .before .before .args in
-    front-taken _ (ap outcome-number (sym (c .enum-told .given .1)) ∙ said o) e
+    front-taken _ (c .enum-told .given .1) (said o) e
     ∙ multicast-front (view (a .w .now)) (a .p) (a .groups)
 
 returns-2 : tie.Need-returns-2
