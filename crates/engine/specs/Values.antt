@@ -1,6 +1,7 @@
 -- What an exported function leaves in a number that it was lent: a value of the answer, or on a refusal what stood
 -- there. Assumes nothing.
-use mathlib.Core.Path.{_≡_, ap}
+use mathlib.Core.Path.{_≡_, ap, _∙_}
+use mathlib.Core.List.{List}
 use Prim.Native.Nat.{ℕ}
 use lib.Dec.{eqb}
 use Rattle.base.specs.Tests.{pick}
@@ -25,6 +26,18 @@ refusal-in (refuses n) = n
 abbrev pub value-in : {A : Type 0} → (A → ℕ) → Reply A → ℕ → ℕ
 value-in f (gives a) before = f a
 value-in f (refuses n) before = before
+
+-- two replies that are the same give the same
+pub values-same : {A : Type 0} (f g : A → ℕ) {x y : Reply A} (m n : ℕ) → x ≡ y
+    → (value-in f x m ≡ value-in f y m) × (value-in g x n ≡ value-in g y n)
+values-same {A} f g m n e =
+    (ap (λ (z : Reply A). value-in f z m) e, ap (λ (z : Reply A). value-in g z n) e)
+
+-- and the number of the refusal and the words beside it
+pub whole : {A : Type 0} (f g : A → ℕ) {r : ℕ} {x y : Reply A} {u v : List ℕ} (m n : ℕ)
+    → r ≡ refusal-in x → x ≡ y → u ≡ v
+    → (r ≡ refusal-in y) × ((u ≡ v) × ((value-in f x m ≡ value-in f y m) × (value-in g x n ≡ value-in g y n)))
+whole f g m n h e w = (h ∙ ap refusal-in e, (w, values-same f g m n e))
 
 -- Of how settle ended: the number of arrivals, and 1 for done or 0 for stopped.
 abbrev pub arrivals-in : Ending → ℕ

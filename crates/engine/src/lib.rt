@@ -11,10 +11,45 @@ use world::Settling;
 ghost use mathlib.Core.Path.{_≡_};
 ghost use lib.ListN.{length};
 ghost use Rattle.journal.specs.Journal.{write-refusal, written, read-refusal, read-out};
-ghost use Rattle.journal.specs.Answers.{length-answer, count-answer};
+ghost use Rattle.journal.specs.Answers.{of-written, of-read, length-answer, count-answer};
 ghost use Rattle.world.specs.Words.{making-refusal, made-words, step-refusal, stepped-words, settle-reply, settled-words, log-start, length-reply};
+ghost use Rattle.world.specs.Answers.{outcome-number};
 ghost use Rattle.replaying.specs.Replay.{replay-reply, replayed-words};
 ghost use Rattle.engine.specs.Values.{given, refusal-in, value-in, arrivals-in, done-in, steps-in, refused-in};
+
+// The number of an outcome.
+fn outcome_number(x: Outcome) -> u32
+    ensures { λ r. ⌜ r ≡ outcome-number x ⌝ }
+{
+    match x {
+        Outcome::Taken => 0,
+        Outcome::Refused(r) => world::number(r),
+    }
+}
+
+// The number of an answer of writing a journal.
+fn write_number(x: Written) -> u32
+    ensures { λ r. ⌜ r ≡ of-written x ⌝ }
+{
+    match x {
+        Written::Done => 0,
+        Written::WrongRecords => 16,
+        Written::WrongOutput => 17,
+    }
+}
+
+// The number of an answer of reading a journal.
+fn read_number(x: ReadBack) -> u32
+    ensures { λ r. ⌜ r ≡ of-read x ⌝ }
+{
+    match x {
+        ReadBack::Done => 0,
+        ReadBack::WrongLength => 13,
+        ReadBack::WrongCheck => 14,
+        ReadBack::WrongForm => 15,
+        ReadBack::WrongOutput => 17,
+    }
+}
 
 // The number of bytes of the journal of so many bytes of records: 0 or 16.
 #[no_mangle]
@@ -37,11 +72,7 @@ pub extern "C" fn wt_journal_write(records: &[u8], out: &mut [u8]) -> u32
     ensures answer { λ r. ⌜ r ≡ write-refusal (length (now (records .entry))) (length (now (out .entry))) ⌝ }
     ensures bytes { λ _. ⌜ now (out .exit) ≡ written (now (records .entry)) (now (out .entry)) ⌝ }
 {
-    match journal::write(records, out) {
-        Written::Done => 0,
-        Written::WrongRecords => 16,
-        Written::WrongOutput => 17,
-    }
+    write_number(journal::write(records, out))
 }
 
 // The number of records of a journal: 0, 13, 14 or 15.
@@ -67,13 +98,7 @@ pub extern "C" fn wt_journal_read(journal: &[u8], records: &mut [u8]) -> u32
     ensures answer { λ r. ⌜ r ≡ read-refusal (now (journal .entry)) (length (now (records .entry))) ⌝ }
     ensures bytes { λ _. ⌜ now (records .exit) ≡ read-out (now (journal .entry)) (now (records .entry)) ⌝ }
 {
-    match journal::read(journal, records) {
-        ReadBack::Done => 0,
-        ReadBack::WrongLength => 13,
-        ReadBack::WrongCheck => 14,
-        ReadBack::WrongForm => 15,
-        ReadBack::WrongOutput => 17,
-    }
+    read_number(journal::read(journal, records))
 }
 
 // Makes the world of a setup record in the lent words: 0, 1 or 3.
@@ -82,10 +107,7 @@ pub extern "C" fn wt_world_make(w: &mut [u16], setup: &[u8]) -> u32
     ensures answer { λ r. ⌜ r ≡ making-refusal (now (w .entry)) (now (setup .entry)) ⌝ }
     ensures words { λ _. ⌜ now (w .exit) ≡ made-words (now (w .entry)) (now (setup .entry)) ⌝ }
 {
-    match making::make(w, setup) {
-        Outcome::Taken => 0,
-        Outcome::Refused(r) => world::number(r),
-    }
+    outcome_number(making::make(w, setup))
 }
 
 // Takes a step: 0, 1, 2 or 4 to 12.
@@ -94,10 +116,7 @@ pub extern "C" fn wt_step(w: &mut [u16], step: &[u8]) -> u32
     ensures answer { λ r. ⌜ r ≡ step-refusal (now (w .entry)) (now (step .entry)) ⌝ }
     ensures words { λ _. ⌜ now (w .exit) ≡ stepped-words (now (w .entry)) (now (step .entry)) ⌝ }
 {
-    match calls::step(w, step) {
-        Outcome::Taken => 0,
-        Outcome::Refused(r) => world::number(r),
-    }
+    outcome_number(calls::step(w, step))
 }
 
 // Where the FIFO or the causal log of a process stands among the lent words, and its length: 0, 1, 2 or 5.
@@ -159,16 +178,11 @@ pub extern "C" fn wt_replay(
     ensures steps { λ _. ⌜ now (steps .exit) ≡ value-in steps-in (replay-reply (now (w .entry)) (now (journal .entry))) (now (steps .entry)) ⌝ }
     ensures refused { λ _. ⌜ now (refused .exit) ≡ value-in refused-in (replay-reply (now (w .entry)) (now (journal .entry))) (now (refused .entry)) ⌝ }
 {
-    match replaying::replay(w, journal) {
-        Replaying::Done(n, k) => {
-            *steps = n as u32;
-            *refused = k as u32;
-            0
-        }
-        Replaying::WorldLength => 1,
-        Replaying::JournalLength => 13,
-        Replaying::WrongCheck => 14,
-        Replaying::WrongForm => 15,
-        Replaying::BadSetup => 3,
+    let x = replaying::replay(w, journal);
+    if let Replaying::Done(n, k) = x {
+        *steps = n as u32;
+        *refused = k as u32;
+        return 0;
     }
+    replaying::number(x)
 }

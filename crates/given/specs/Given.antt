@@ -94,7 +94,19 @@ pub read-yes : (bytes : List ℕ) (k : ℕ) (b : Bool) (x : Step) → length byt
     → read-as k bytes ≡ pick b x malformed → b ≡ true → x ≡ read bytes
 read-yes bytes k b x l e d t = sym (read-kind bytes k l e ∙ d ∙ rw t)
 
+-- ---- a letter
+-- The loss or the arrival of a letter.
+abbrev pub letter-step : Bool → ℕ → ℕ → ℕ → ℕ → Step
+letter-step lost k m q p = pick lost (loses k m q p) (arrives k m q p)
+
+pub letter-as : (lost : Bool) (bytes : List ℕ)
+    → read-as (pick lost 3 2) bytes
+    ≡ pick (letter-good bytes)
+    (letter-step lost (byte bytes 1) (byte bytes 2) (byte bytes 3) (byte bytes 4)) malformed
+letter-as true bytes = refl
+letter-as false bytes = refl
+
 -- operands that are the same
-pub same-letter : (f : ℕ → ℕ → ℕ → ℕ → Step) {k m q p x y z u : ℕ} → k ≡ x → m ≡ y → q ≡ z → p ≡ u
-    → f k m q p ≡ f x y z u
-same-letter f a b c d = cc
+pub same-letter : (lost : Bool) {k m q p x y z u : ℕ} → k ≡ x → m ≡ y → q ≡ z → p ≡ u
+    → letter-step lost k m q p ≡ letter-step lost x y z u
+same-letter lost a b c d = cc

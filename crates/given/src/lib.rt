@@ -2,6 +2,7 @@
 ghost use mathlib.Core.Path.{_≡_};
 ghost use Prim.Native.Nat.{_≤_, _<_};
 ghost use lib.ListN.{length, getD};
+ghost use Rattle.base.specs.Tests.{pick};
 ghost use Rattle.world.specs.Steps.{zeros-from, read};
 ghost use Rattle.given.specs.Given.{step-of, letter-good};
 
@@ -46,7 +47,7 @@ fn zeros(bytes: &[u8], i: usize) -> bool
 }
 
 // Whether the bytes of an arrival or a loss are well formed: the letter's kind is one, and the rest is zero.
-fn letter(bytes: &[u8]) -> bool
+fn is_letter(bytes: &[u8]) -> bool
     requires { ⌜ length (now bytes) ≡ 8 ⌝ }
     ensures { λ r. ⌜ r ≡ letter-good (now (bytes .entry)) ⌝ }
 {
@@ -67,36 +68,22 @@ fn multicast(bytes: &[u8]) -> Given
     Given::Malformed
 }
 
-// The step of bytes whose kind is that of an arrival.
-fn arrival(bytes: &[u8]) -> Given
-    requires { ⌜ (length (now bytes) ≡ 8) × (getD (now bytes) 0 0 ≡ 2) ⌝ }
+// The step of bytes whose kind is that of a loss, or else of an arrival.
+fn letter(bytes: &[u8], lost: bool) -> Given
+    requires { ⌜ (length (now bytes) ≡ 8) × (getD (now bytes) 0 0 ≡ pick lost 3 2) ⌝ }
     ensures { λ r. ⌜ step-of r ≡ read (now (bytes .entry)) ⌝ }
 {
-    if letter(bytes) {
-        return Given::Arrival(
-            byte(bytes, 1),
-            byte(bytes, 2),
-            byte(bytes, 3),
-            byte(bytes, 4),
-        );
+    if !is_letter(bytes) {
+        return Given::Malformed;
     }
-    Given::Malformed
-}
-
-// The step of bytes whose kind is that of a loss.
-fn loss(bytes: &[u8]) -> Given
-    requires { ⌜ (length (now bytes) ≡ 8) × (getD (now bytes) 0 0 ≡ 3) ⌝ }
-    ensures { λ r. ⌜ step-of r ≡ read (now (bytes .entry)) ⌝ }
-{
-    if letter(bytes) {
-        return Given::Loss(
-            byte(bytes, 1),
-            byte(bytes, 2),
-            byte(bytes, 3),
-            byte(bytes, 4),
-        );
+    let k = byte(bytes, 1);
+    let m = byte(bytes, 2);
+    let q = byte(bytes, 3);
+    let p = byte(bytes, 4);
+    if lost {
+        return Given::Loss(k, m, q, p);
     }
-    Given::Malformed
+    Given::Arrival(k, m, q, p)
 }
 
 // The step of bytes whose kind is that of a trust step.
@@ -134,8 +121,8 @@ pub fn take(bytes: &[u8]) -> Given
     let k = byte(bytes, 0);
     match k {
         1 => multicast(bytes),
-        2 => arrival(bytes),
-        3 => loss(bytes),
+        2 => letter(bytes, false),
+        3 => letter(bytes, true),
         4 => trust(bytes),
         5 => crash(bytes),
         _ => Given::Malformed,

@@ -1,20 +1,22 @@
 -- A chain of tests in front of refusals, and the tests in the code's order. Assumes nothing.
 use mathlib.Core.Path.{_≡_, refl, sym, ap, _∙_}
 use mathlib.Core.Bool.{Bool, true, false, not, _&&_, _||_}
-use Prim.Native.Nat.{ℕ, _/_, _^_, _≤_, _<_}
+use Prim.Native.Nat.{ℕ, suc, _/_, _^_, _≤_, _<_}
 use native.Mathlib.Nat.{div-eq-of-lt, le-div-iff-mul-le, one-mul}
 use native.Mathlib.Omega.{arith}
 use lib.Dec.{ltb, eqb}
 use lib.Pow.{pow-pos}
 use borrow.Author.Tests.{eq-eqb, ne-eqb, ltb-true, ltb-false}
-use Rattle.base.specs.Tests.{both, both-l, both-r}
+use Rattle.base.specs.Tests.{pick, both, both-l, both-r}
 use Rattle.base.specs.Bits.{bit, only}
 use Rattle.world.specs.World.{size, count, State}
-use Rattle.base.specs.Refusals.{needs, needs-none}
-use Rattle.world.specs.Steps.{has-group, good-mask, is-process, is-message}
-use Rattle.world.specs.Answers.{refusal-number}
+use Rattle.base.specs.Refusals.{needs, or-else, needs-none}
+use Rattle.world.specs.Steps.{has-group, good-mask, is-process, is-message, is-up, in-flight, refusal, multicasts, arrives, loses}
+use Rattle.world.specs.Answers.{refusal-number, outcome-number}
 use Rattle.world.specs.declared.Refusal.{Refusal}
 use Rattle.world.specs.declared.Refusal.the-variants.{WorldLength, WorldUnsound, BadSetup, Malformed, NoProcess, BadMask, NoMessage, BadTrust, Down, Full, NotInFlight, BothUp}
+use Rattle.world.specs.declared.Outcome.{Outcome}
+use Rattle.world.specs.declared.Outcome.the-variants.{Taken, Refused}
 use Rattle.bounds.specs.Bounds.{Bounds}
 
 -- the test fails, or passes and what follows decides
@@ -88,49 +90,75 @@ below-power x n = go (ltb x (2 ^ n)) refl
         (pow-pos n) .1 (rw (one-mul (2 ^ n)) (ltb-false x (2 ^ n) e)) in
         ne-eqb (x / 2 ^ n) 0 (λ z. omega arith)
 
+-- ---- tests in front of others
+-- where they refuse, they refuse whatever comes after
+pub front-refused : {o : Outcome} {first : ℕ} (rest : ℕ) (r : Refusal) → o ≡ Refused r → outcome-number o ≡ first
+    → refusal-number r ≡ or-else first rest
+front-refused {o} {first} rest r t h =
+    let e : refusal-number r ≡ first = ap outcome-number (sym t) ∙ h in
+    e ∙ sym (ap (λ (b : Bool). pick b rest first) (ne-eqb first 0 (λ z. refusal-some r (e ∙ z))))
+
+-- where they do not, what comes after decides
+pub none-first : {o : Outcome} {first : ℕ} → o ≡ Taken → outcome-number o ≡ first → first ≡ 0
+none-first t h = sym (ap outcome-number (sym t) ∙ h)
+
+pub front-taken : {o : Outcome} {first x : ℕ} (rest : ℕ) → o ≡ Taken → outcome-number o ≡ first → x ≡ rest
+    → x ≡ or-else first rest
+front-taken {o} {first} rest t h e =
+    e ∙ sym (ap (λ (b : Bool). pick b rest first) (eq-eqb first 0 (none-first t h)))
+
+-- three tests in front
+stays : (n rest : ℕ) → or-else (suc n) rest ≡ suc n
+stays n rest = ap (λ (b : Bool). pick b rest (suc n)) (ne-eqb (suc n) 0 (λ z. omega arith))
+
+three-front : (x y z : ℕ) (a b c : Bool) (rest : ℕ)
+    → or-else (needs (suc x) a (needs (suc y) b (needs (suc z) c 0))) rest
+    ≡ needs (suc x) a (needs (suc y) b (needs (suc z) c rest))
+three-front x y z true true true rest = refl
+three-front x y z true true false rest = stays z rest
+three-front x y z true false c rest = stays y rest
+three-front x y z false b c rest = stays x rest
+
+-- ---- the process of a step and its mask, of which the number is n
+abbrev pub process-refusal : State → ℕ → Bool → ℕ → ℕ
+process-refusal s p good n = needs 5 (is-process s p) (needs n good (needs 9 (is-up s p) 0))
+
+-- a multicast is refused for these, or for want of room
+pub multicast-front : (s : State) (p groups : ℕ)
+    → or-else (process-refusal s p (good-mask s groups) 6) (needs 10 (ltb (s count) 64) 0)
+    ≡ refusal s (multicasts p groups)
+unfolding refusal
+multicast-front s p groups = three-front 4 5 8 (is-process s p) (good-mask s groups) (is-up s p) _
+
 -- ---- the operands of a letter
-abbrev pub letter-refusal : State → ℕ → ℕ → ℕ → ℕ → ℕ → ℕ
-letter-refusal s k m q p rest =
-    needs 4 (ltb k 3) (needs 5 (is-process s q && is-process s p) (needs 7 (is-message s m) rest))
+abbrev pub operands-refusal : State → ℕ → ℕ → ℕ → ℕ → ℕ
+operands-refusal s k m q p =
+    needs 4 (ltb k 3) (needs 5 (is-process s q && is-process s p) (needs 7 (is-message s m) 0))
 
--- where they are refused, they are refused whatever comes after
-still : (a b c : Bool) (n rest : ℕ) → (n ≡ 0 → ⊥) → n ≡ needs 4 a (needs 5 b (needs 7 c 0))
-    → n ≡ needs 4 a (needs 5 b (needs 7 c rest))
-still true true true n rest h e = absurd (h e)
-still true true false n rest h e = e
-still true false c n rest h e = e
-still false b c n rest h e = e
-
-pub letter-refused : (s : State) (k m q p rest : ℕ) (r : Refusal)
-    → refusal-number r ≡ letter-refusal s k m q p 0
-    → refusal-number r ≡ letter-refusal s k m q p rest
-letter-refused s k m q p rest r e =
-    still (ltb k 3) (is-process s q && is-process s p) (is-message s m) (refusal-number r) rest
-    (refusal-some r) e
-
--- where they are not, what comes after decides
-pub record Operands (s : State) (k m q p : ℕ) : Type 0 where
-  pub kind : ltb k 3 ≡ true
-  pub ends : (is-process s q && is-process s p) ≡ true
-  pub message : is-message s m ≡ true
-
-pub operands : (s : State) (k m q p : ℕ) → letter-refusal s k m q p 0 ≡ 0 → Operands s k m q p
-operands s k m q p e =
-    let a = needs-none 3 (ltb k 3) _ e in
-    let b = needs-none 4 (is-process s q && is-process s p) _ (a .1) in
-    let c = needs-none 6 (is-message s m) 0 (b .1) in
-    record { kind = a .0; ends = b .0; message = c .0 }
-
-pub letter-rest : (s : State) (k m q p rest : ℕ) {x : ℕ} → Operands s k m q p → x ≡ rest
-    → x ≡ letter-refusal s k m q p rest
-letter-rest s k m q p rest o e =
-    passes 4 _ (o .kind) (passes 5 _ (o .ends) (passes 7 rest (o .message) e))
-
-pub operands-low : (s : State) (k m q p : ℕ) → Bounds s → Operands s k m q p
+-- those that are not refused are within the layout
+pub operands-low : (s : State) (k m q p : ℕ) {o : Outcome} → Bounds s → o ≡ Taken
+    → outcome-number o ≡ operands-refusal s k m q p
     → (k < 3) × (m < 64) × (q < 16) × (p < 16)
-operands-low s k m q p h o =
-    let x = ltb-true k 3 (o .kind) in
-    let y = ltb-true m (s count) (o .message) in
-    let z = ltb-true q (s size) (both-l (is-process s q) (is-process s p) (o .ends)) in
-    let u = ltb-true p (s size) (both-r (is-process s q) (is-process s p) (o .ends)) in
+operands-low s k m q p h t e =
+    let a = needs-none 3 (ltb k 3) _ (none-first t e) in
+    let b = needs-none 4 (is-process s q && is-process s p) _ (a .1) in
+    let x = ltb-true k 3 (a .0) in
+    let y = ltb-true m (s count) (needs-none 6 (is-message s m) 0 (b .1) .0) in
+    let z = ltb-true q (s size) (both-l (is-process s q) (is-process s p) (b .0)) in
+    let u = ltb-true p (s size) (both-r (is-process s q) (is-process s p) (b .0)) in
     (x, omega (arith, y, h .counts), omega (arith, z, h .sizes), omega (arith, u, h .sizes))
+
+-- what the loss or the arrival of a letter is refused for besides
+abbrev pub flight-refusal : State → ℕ → ℕ → ℕ → ℕ → Bool → ℕ
+flight-refusal s k m q p lost =
+    needs 9 (lost || is-up s p)
+    (needs 11 (in-flight s k m q p) (needs 12 (not (lost && (is-up s q && is-up s p))) 0))
+
+pub letter-front : (s : State) (k m q p : ℕ) (lost : Bool)
+    → or-else (operands-refusal s k m q p) (flight-refusal s k m q p lost)
+    ≡ refusal s (pick lost (loses k m q p) (arrives k m q p))
+unfolding refusal
+letter-front s k m q p true =
+    three-front 3 4 6 (ltb k 3) (is-process s q && is-process s p) (is-message s m) _
+letter-front s k m q p false =
+    three-front 3 4 6 (ltb k 3) (is-process s q && is-process s p) (is-message s m) _

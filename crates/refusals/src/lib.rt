@@ -6,12 +6,13 @@ ghost use mathlib.Core.Bool.{not, _&&_, _||_};
 ghost use Prim.Native.Nat.{_^_, _≤_, _<_};
 ghost use lib.Dec.{ltb};
 ghost use lib.ListN.{length};
+ghost use Rattle.base.specs.Tests.{pick};
 ghost use Rattle.base.specs.Bits.{bit, only};
 ghost use Rattle.world.specs.World.{view};
 ghost use Rattle.world.specs.Steps.{multicasts, arrives, loses, trusts, crashes, has-group, good-mask, is-up, in-flight, refusal};
-ghost use Rattle.world.specs.Answers.{outcome-number};
+ghost use Rattle.world.specs.Answers.{refusal-number, outcome-number};
 ghost use Rattle.bounds.specs.Bounds.{Bounds};
-ghost use Rattle.refusals.specs.Refused.{letter-refusal};
+ghost use Rattle.refusals.specs.Refused.{process-refusal, operands-refusal};
 
 // Whether some process is of group g.
 fn is_group(w: &[u16], g: usize) -> bool
@@ -105,19 +106,31 @@ fn are_processes(set: u16, n: usize) -> bool
     cells::wide(set) >> n == 0
 }
 
+// The process and the mask of a multicast or trust step: 5, the refusal of a mask that is not good, then 9.
+fn of_process(w: &[u16], p: usize, good: bool, mask: Refusal) -> Outcome
+    requires { ⌜ (length (now w) ≡ 20480) × Bounds (view (now w)) ⌝ }
+    ensures { λ r. ⌜ outcome-number r ≡ process-refusal (view (now (w .entry))) p good (refusal-number mask) ⌝ }
+{
+    if cells::word(w, cells::SIZE) <= p {
+        return Outcome::Refused(Refusal::NoProcess);
+    }
+    if !good {
+        return Outcome::Refused(mask);
+    }
+    if !is_live(w, p) {
+        return Outcome::Refused(Refusal::Down);
+    }
+    Outcome::Taken
+}
+
 // A multicast by p to the groups of a mask.
 pub fn of_multicast(w: &[u16], p: usize, groups: u16) -> Outcome
     requires { ⌜ (length (now w) ≡ 20480) × Bounds (view (now w)) ⌝ }
     ensures { λ r. ⌜ outcome-number r ≡ refusal (view (now (w .entry))) (multicasts p groups) ⌝ }
 {
-    if cells::word(w, cells::SIZE) <= p {
-        return Outcome::Refused(Refusal::NoProcess);
-    }
-    if !is_good_mask(w, groups) {
-        return Outcome::Refused(Refusal::BadMask);
-    }
-    if !is_live(w, p) {
-        return Outcome::Refused(Refusal::Down);
+    let good = is_good_mask(w, groups);
+    if let Outcome::Refused(r) = of_process(w, p, good, Refusal::BadMask) {
+        return Outcome::Refused(r);
     }
     if 64 <= cells::word(w, cells::COUNT) {
         return Outcome::Refused(Refusal::Full);
@@ -125,10 +138,33 @@ pub fn of_multicast(w: &[u16], p: usize, groups: u16) -> Outcome
     Outcome::Taken
 }
 
+// A trust step of p.
+pub fn of_trust(w: &[u16], p: usize, set: u16) -> Outcome
+    requires { ⌜ (length (now w) ≡ 20480) × Bounds (view (now w)) ⌝ }
+    ensures { λ r. ⌜ outcome-number r ≡ refusal (view (now (w .entry))) (trusts p set) ⌝ }
+{
+    let good = are_processes(set, cells::word(w, cells::SIZE));
+    of_process(w, p, good, Refusal::BadTrust)
+}
+
+// A crash of p.
+pub fn of_crash(w: &[u16], p: usize) -> Outcome
+    requires { ⌜ (length (now w) ≡ 20480) × Bounds (view (now w)) ⌝ }
+    ensures { λ r. ⌜ outcome-number r ≡ refusal (view (now (w .entry))) (crashes p) ⌝ }
+{
+    if cells::word(w, cells::SIZE) <= p {
+        return Outcome::Refused(Refusal::NoProcess);
+    }
+    if !is_live(w, p) {
+        return Outcome::Refused(Refusal::Down);
+    }
+    Outcome::Taken
+}
+
 // The operands of an arrival or a loss: 4, 5, then 7.
-fn of_letter(w: &[u16], k: usize, m: usize, q: usize, p: usize) -> Outcome
+fn of_operands(w: &[u16], k: usize, m: usize, q: usize, p: usize) -> Outcome
     requires { ⌜ length (now w) ≡ 20480 ⌝ }
-    ensures { λ r. ⌜ outcome-number r ≡ letter-refusal (view (now (w .entry))) k m q p 0 ⌝ }
+    ensures { λ r. ⌜ outcome-number r ≡ operands-refusal (view (now (w .entry))) k m q p ⌝ }
 {
     if 2 < k {
         return Outcome::Refused(Refusal::Malformed);
@@ -146,68 +182,23 @@ fn of_letter(w: &[u16], k: usize, m: usize, q: usize, p: usize) -> Outcome
     Outcome::Taken
 }
 
-// The arrival of a letter.
-pub fn of_arrival(w: &[u16], k: usize, m: usize, q: usize, p: usize) -> Outcome
+// The loss of a letter, or else its arrival. Only an arrival asks that the receiver is up, only a loss that an
+// end is down.
+pub fn of_letter(w: &[u16], k: usize, m: usize, q: usize, p: usize, lost: bool) -> Outcome
     requires { ⌜ (length (now w) ≡ 20480) × Bounds (view (now w)) ⌝ }
-    ensures { λ r. ⌜ outcome-number r ≡ refusal (view (now (w .entry))) (arrives k m q p) ⌝ }
+    ensures { λ r. ⌜ outcome-number r ≡ refusal (view (now (w .entry))) (pick lost (loses k m q p) (arrives k m q p)) ⌝ }
 {
-    if let Outcome::Refused(r) = of_letter(w, k, m, q, p) {
+    if let Outcome::Refused(r) = of_operands(w, k, m, q, p) {
         return Outcome::Refused(r);
     }
-    if !is_live(w, p) {
+    if !(lost | is_live(w, p)) {
         return Outcome::Refused(Refusal::Down);
     }
     if !flies(w, k, m, q, p) {
         return Outcome::Refused(Refusal::NotInFlight);
     }
-    Outcome::Taken
-}
-
-// The loss of a letter.
-pub fn of_loss(w: &[u16], k: usize, m: usize, q: usize, p: usize) -> Outcome
-    requires { ⌜ (length (now w) ≡ 20480) × Bounds (view (now w)) ⌝ }
-    ensures { λ r. ⌜ outcome-number r ≡ refusal (view (now (w .entry))) (loses k m q p) ⌝ }
-{
-    if let Outcome::Refused(r) = of_letter(w, k, m, q, p) {
-        return Outcome::Refused(r);
-    }
-    if !flies(w, k, m, q, p) {
-        return Outcome::Refused(Refusal::NotInFlight);
-    }
-    if are_live(w, q, p) {
+    if lost & are_live(w, q, p) {
         return Outcome::Refused(Refusal::BothUp);
-    }
-    Outcome::Taken
-}
-
-// A trust step of p.
-pub fn of_trust(w: &[u16], p: usize, set: u16) -> Outcome
-    requires { ⌜ (length (now w) ≡ 20480) × Bounds (view (now w)) ⌝ }
-    ensures { λ r. ⌜ outcome-number r ≡ refusal (view (now (w .entry))) (trusts p set) ⌝ }
-{
-    let n = cells::word(w, cells::SIZE);
-    if n <= p {
-        return Outcome::Refused(Refusal::NoProcess);
-    }
-    if !are_processes(set, n) {
-        return Outcome::Refused(Refusal::BadTrust);
-    }
-    if !is_live(w, p) {
-        return Outcome::Refused(Refusal::Down);
-    }
-    Outcome::Taken
-}
-
-// A crash of p.
-pub fn of_crash(w: &[u16], p: usize) -> Outcome
-    requires { ⌜ (length (now w) ≡ 20480) × Bounds (view (now w)) ⌝ }
-    ensures { λ r. ⌜ outcome-number r ≡ refusal (view (now (w .entry))) (crashes p) ⌝ }
-{
-    if cells::word(w, cells::SIZE) <= p {
-        return Outcome::Refused(Refusal::NoProcess);
-    }
-    if !is_live(w, p) {
-        return Outcome::Refused(Refusal::Down);
     }
     Outcome::Taken
 }

@@ -1,7 +1,7 @@
 // The setup record of a world: read and tested.
 ghost use mathlib.Core.Path.{_≡_};
-ghost use Prim.Native.Nat.{_≤_, _<_};
-ghost use lib.ListN.{length};
+ghost use Prim.Native.Nat.{_+_, _*_, _≤_, _<_};
+ghost use lib.ListN.{length, getD};
 ghost use Rattle.world.specs.Setup.{setup-bits, good-setup};
 ghost use Rattle.setup.specs.Groups.{group-in, has-group, follows, no-gap};
 
@@ -12,14 +12,20 @@ fn wide(x: u8) -> u64
     x as u64
 }
 
+// Bytes i and i + 1, low byte first.
+fn pair(setup: &[u8], i: usize) -> u64
+    requires { ⌜ i + 1 < length (now setup) ⌝ }
+    ensures { λ r. ⌜ (r ≡ getD (now (setup .entry)) i 0 + getD (now (setup .entry)) (i + 1) 0 * 256) × (r < 65536) ⌝ }
+{
+    wide(setup[i]) + wide(setup[i + 1]) * 256
+}
+
 // The 48 bits of a setup record, low byte first.
 pub fn bits(setup: &[u8]) -> u64
     requires { ⌜ length (now setup) ≡ 8 ⌝ }
     ensures { λ r. ⌜ r ≡ setup-bits (now (setup .entry)) ⌝ }
 {
-    let low = wide(setup[2]) + wide(setup[3]) * 256 + wide(setup[4]) * 65536;
-    let mid = low + wide(setup[5]) * 16777216;
-    mid + wide(setup[6]) * 4294967296 + wide(setup[7]) * 1099511627776
+    pair(setup, 2) + pair(setup, 4) * 65536 + pair(setup, 6) * 4294967296
 }
 
 // The group of process i.

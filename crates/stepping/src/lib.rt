@@ -20,8 +20,8 @@ fn judge(w: &[u16], x: Given) -> Outcome
 {
     match x {
         Given::Multicast(p, groups) => refusals::of_multicast(w, p, groups),
-        Given::Arrival(k, m, q, p) => refusals::of_arrival(w, k, m, q, p),
-        Given::Loss(k, m, q, p) => refusals::of_loss(w, k, m, q, p),
+        Given::Arrival(k, m, q, p) => refusals::of_letter(w, k, m, q, p, false),
+        Given::Loss(k, m, q, p) => refusals::of_letter(w, k, m, q, p, true),
         Given::Trust(p, set) => refusals::of_trust(w, p, set),
         Given::Crash(p) => refusals::of_crash(w, p),
         Given::Malformed => Outcome::Refused(Refusal::Malformed),

@@ -5,7 +5,6 @@ use Rattle.base.specs.Bits.{with}
 use Rattle.blocks.specs.Known.{sender-low}
 use Rattle.blocks.specs.Message.{flight-law, quiet-law}
 use borrow.Author.Needs.{needs}
-use borrow.Author.Needs.{needs}
 use Rattle.blocks.proofs.flight.Statement.{statement}
 use Rattle.blocks.proofs.flight.Tie as tie
 

@@ -3,7 +3,6 @@ use Prim.Native.Nat.{_+_, _*_}
 use native.Mathlib.Omega.{arith}
 use Rattle.blocks.specs.Process.{front-law}
 use borrow.Author.Needs.{needs}
-use borrow.Author.Needs.{needs}
 use Rattle.blocks.proofs.front.Statement.{statement}
 use Rattle.blocks.proofs.front.Tie as tie
 

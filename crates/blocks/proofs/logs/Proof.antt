@@ -3,7 +3,6 @@ use native.Mathlib.Omega.{arith}
 use Rattle.blocks.specs.Logs.{logs-law}
 use Rattle.blocks.specs.Process.{low}
 use borrow.Author.Needs.{needs}
-use borrow.Author.Needs.{needs}
 use Rattle.blocks.proofs.logs.Statement.{statement}
 use Rattle.blocks.proofs.logs.Tie as tie
 

@@ -2,7 +2,6 @@
 use native.Mathlib.Omega.{arith}
 use Rattle.blocks.specs.Message.{message-law}
 use borrow.Author.Needs.{needs}
-use borrow.Author.Needs.{needs}
 use Rattle.blocks.proofs.message.Statement.{statement}
 use Rattle.blocks.proofs.message.Tie as tie
 

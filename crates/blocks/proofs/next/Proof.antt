@@ -5,7 +5,6 @@ use native.Mathlib.Omega.{arith}
 use Rattle.regions.specs.Nexts.{counted-small, nexts-law}
 use Rattle.blocks.specs.Process.{block, countable, low}
 use borrow.Author.Needs.{needs}
-use borrow.Author.Needs.{needs}
 use Rattle.blocks.proofs.next.Statement.{statement}
 use Rattle.blocks.proofs.next.Tie as tie
 

@@ -6,7 +6,6 @@ use Rattle.world.specs.World.{view}
 use Rattle.blocks.specs.Logs.{logs-fine}
 use Rattle.blocks.specs.Process.{front-fine, block, lengths, block-front, block-logs, block-rest}
 use borrow.Author.Needs.{needs}
-use borrow.Author.Needs.{needs}
 use Rattle.blocks.proofs.process.Statement.{statement}
 use Rattle.blocks.proofs.process.Tie as tie
 

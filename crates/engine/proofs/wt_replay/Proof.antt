@@ -1,41 +1,50 @@
 -- `engine::wt_replay` meets its contract: each case of the answer has its number and its values. Assumes nothing.
-use mathlib.Core.Path.{_≡_, sym, ap, _∙_}
-use mathlib.Core.List.{List}
+use mathlib.Core.Path.{_≡_, refl, sym, ap, _∙_}
+use mathlib.Core.List.{List, [], _∷_}
 use Prim.Native.Nat.{ℕ}
 use native.Mathlib.Omega.{arith}
-use Rattle.world.specs.Words.{Reply, gives}
-use Rattle.replaying.specs.Replay.{Counts, replay-reply}
-use Rattle.replaying.specs.Answers.{replaying-reply}
+use types.Run.{OneOf, miss}
+use denote.Enum.Declared.{tagOf}
+use Rattle.world.specs.Words.{gives, refuses}
+use Rattle.replaying.specs.declared.Replaying.{Replaying}
+use Rattle.replaying.specs.declared.Replaying.the-variants.{Done, WorldLength, JournalLength, WrongCheck, WrongForm, BadSetup}
+use Rattle.replaying.proofs.Replaying.{the-type}
+use Rattle.replaying.specs.Replay.{replay-reply}
+use Rattle.replaying.specs.Answers.{replaying-number, replaying-reply}
 use Rattle.replaying.specs.Turns.{counts-small}
-use Rattle.engine.specs.Values.{refusal-in, value-in, steps-in, refused-in}
+use Rattle.engine.specs.Values.{whole, steps-in, refused-in}
 use borrow.Author.Needs.{needs}
 use Rattle.engine.proofs.wt_replay.Statement.{statement}
 use Rattle.engine.proofs.wt_replay.Tie as tie
 
--- what the reply says of every lent number
-whole : {x y : Reply Counts} {u v : List ℕ} (m n : ℕ) → x ≡ y → u ≡ v
-    → (refusal-in x ≡ refusal-in y)
-    × ((u ≡ v) ×
-    ((value-in steps-in x m ≡ value-in steps-in y m) × (value-in refused-in x n ≡ value-in refused-in y n)))
-whole m n e f =
-    let steps = ap (λ (z : Reply Counts). value-in steps-in z m) e in
-    let refused = ap (λ (z : Reply Counts). value-in refused-in z n) e in
-    (ap refusal-in e, (f, (steps, refused)))
+-- the places of the cases behind Done
+abbrev others : List ℕ
+others = 1 ∷ 2 ∷ 3 ∷ 4 ∷ 5 ∷ []
+
+-- each of them refuses
+not-done : (x : Replaying) → OneOf others (tagOf the-type x) → refuses (replaying-number x) ≡ replaying-reply x
+not-done (Done n k) h = absurd (miss others 0 tt h)
+not-done WorldLength h = refl
+not-done JournalLength h = refl
+not-done WrongCheck h = refl
+not-done WrongForm h = refl
+not-done BadSetup h = refl
 
 replay-requires : tie.Need-replay-requires
 replay-requires c κs = search needs
 
-enum-known-n : tie.Need-enum-known-n
-enum-known-n c = search needs
+enum-known-x : tie.Need-enum-known-x
+enum-known-x c = search needs
 
 -- the two numbers that were given
 counts : (c : tie.After-known-told)
-    → gives (record { steps = c .before .n .given .0 .0; refused = c .before .n .given .0 .1 .0 })
-    ≡ replay-reply (c .before .before .before .before .before .before .before .before .before .args .w .now)
-    (c .before .before .before .before .before .before .before .before .before .args .journal .now)
+    → let x = c .before in
+    let a = x .before .before .before .before .before .before .before .before .args in
+    gives (record { steps = x .x .given .0 .0; refused = x .x .given .0 .1 .0 })
+    ≡ replay-reply (a .w .now) (a .journal .now)
 counts c =
-    let n = c .before in
-    ap replaying-reply (sym (n .n .given .1)) ∙ n .before .before .before .before .replay .ensures .0
+    let x = c .before in
+    ap replaying-reply (sym (x .x .given .1)) ∙ x .before .before .before .before .replay .ensures .0
 
 cast-steps : tie.Need-cast-steps
 cast-steps c = omega (arith, counts-small _ _ _ _ (counts c))
@@ -43,29 +52,17 @@ cast-steps c = omega (arith, counts-small _ _ _ _ (counts c))
 cast-refused : tie.Need-cast-refused
 cast-refused c = omega (arith, counts-small _ _ _ _ (counts c))
 
-enum-told : tie.Need-enum-told
-enum-told c = search needs
-
-enum-told-2 : tie.Need-enum-told-2
-enum-told-2 c = search needs
-
-enum-told-3 : tie.Need-enum-told-3
-enum-told-3 c = search needs
-
-enum-told-4 : tie.Need-enum-told-4
-enum-told-4 c = search needs
-
-enum-told-5 : tie.Need-enum-told-5
-enum-told-5 c = search needs
-
 same-length : tie.Need-same-length
 same-length c = search needs
 
 returns : tie.Need-returns
 returns c =
-    let a = c .before .before .before .before .before .before .before .before .before .args in
-    let r = c .before .before .before .before .before .replay in
-    whole (a .steps .now) (a .refused .now) (counts c) (r .ensures .1)
+    let r = c .before .before .before .before .before in
+    let a = r .before .before .before .before .args in
+    whole steps-in refused-in (a .steps .now) (a .refused .now) refl (counts c) (r .replay .ensures .1)
+
+number-requires : tie.Need-number-requires
+number-requires c κs = search needs
 
 same-length-2 : tie.Need-same-length-2
 same-length-2 c = search needs
@@ -74,71 +71,20 @@ returns-2 : tie.Need-returns-2
 returns-2 c =
     let r = c .before .before .before .before in
     let a = r .before .before .before .before .args in
-    whole (a .steps .now) (a .refused .now)
-    (ap replaying-reply (sym (c .enum-told .given .1)) ∙ r .replay .ensures .0) (r .replay .ensures .1)
-
-same-length-3 : tie.Need-same-length-3
-same-length-3 c = search needs
-
-returns-3 : tie.Need-returns-3
-returns-3 c =
-    let r = c .before .before .before .before in
-    let a = r .before .before .before .before .args in
-    whole (a .steps .now) (a .refused .now)
-    (ap replaying-reply (sym (c .enum-told2 .given .1)) ∙ r .replay .ensures .0) (r .replay .ensures .1)
-
-same-length-4 : tie.Need-same-length-4
-same-length-4 c = search needs
-
-returns-4 : tie.Need-returns-4
-returns-4 c =
-    let r = c .before .before .before .before in
-    let a = r .before .before .before .before .args in
-    whole (a .steps .now) (a .refused .now)
-    (ap replaying-reply (sym (c .enum-told3 .given .1)) ∙ r .replay .ensures .0) (r .replay .ensures .1)
-
-same-length-5 : tie.Need-same-length-5
-same-length-5 c = search needs
-
-returns-5 : tie.Need-returns-5
-returns-5 c =
-    let r = c .before .before .before .before in
-    let a = r .before .before .before .before .args in
-    whole (a .steps .now) (a .refused .now)
-    (ap replaying-reply (sym (c .enum-told4 .given .1)) ∙ r .replay .ensures .0) (r .replay .ensures .1)
-
-same-length-6 : tie.Need-same-length-6
-same-length-6 c = search needs
-
-returns-6 : tie.Need-returns-6
-returns-6 c =
-    let r = c .before .before .before .before in
-    let a = r .before .before .before .before .args in
-    whole (a .steps .now) (a .refused .now)
-    (ap replaying-reply (sym (c .enum-told5 .given .1)) ∙ r .replay .ensures .0) (r .replay .ensures .1)
+    whole steps-in refused-in (a .steps .now) (a .refused .now) (c .number .ensures)
+    (not-done (r .replay .result) (c .before .match .keys2) ∙ r .replay .ensures .0)
+    (r .replay .ensures .1)
 
 pub wt-replay-spec : {M : Type 1} → statement M
 wt-replay-spec =
     tie.close
     (tie.spec
     replay-requires
-    enum-known-n
+    enum-known-x
     cast-steps
     cast-refused
-    enum-told
-    enum-told-2
-    enum-told-3
-    enum-told-4
-    enum-told-5
     same-length
     returns
+    number-requires
     same-length-2
-    returns-2
-    same-length-3
-    returns-3
-    same-length-4
-    returns-4
-    same-length-5
-    returns-5
-    same-length-6
-    returns-6)
+    returns-2)

@@ -1,9 +1,7 @@
 -- `engine::wt_settle` meets its contract: each case of the answer has its number and its values. Assumes nothing.
-use mathlib.Core.Path.{sym, ap, _∙_}
-use Rattle.world.specs.Settle.{Ending}
-use Rattle.world.specs.Words.{Reply}
+use mathlib.Core.Path.{refl, sym, ap, _∙_}
 use Rattle.world.specs.Answers.{settling-reply}
-use Rattle.engine.specs.Values.{refusal-in, value-in, arrivals-in, done-in}
+use Rattle.engine.specs.Values.{whole, arrivals-in, done-in}
 use borrow.Author.Needs.{needs}
 use Rattle.engine.proofs.wt_settle.Statement.{statement}
 use Rattle.engine.proofs.wt_settle.Tie as tie
@@ -28,61 +26,30 @@ same-length c = search needs
 
 returns : tie.Need-returns
 returns c =
-    let a = c .before .before .before .before .before .before .before .before .args in
-    let k = c .before in
-    let s = k .before .before .before .before .settle in
-    let e = ap settling-reply (sym (k .n .given .1)) ∙ s .ensures .0 in (
-      ap refusal-in e,
-      (
-        s .ensures .1,
-        (
-          ap (λ (x : Reply Ending). value-in arrivals-in x (a .arrivals .now)) e,
-          ap
-              (λ (x : Reply Ending). value-in done-in x (a .done .now)) e,
-        ),
-      ),
-    )
+    let s = c .before .before .before .before .before in
+    let a = s .before .before .before .args in
+    whole arrivals-in done-in (a .arrivals .now) (a .done .now) refl
+    (ap settling-reply (sym (c .before .n .given .1)) ∙ s .settle .ensures .0) (s .settle .ensures .1)
 
 same-length-2 : tie.Need-same-length-2
 same-length-2 c = search needs
 
 returns-2 : tie.Need-returns-2
 returns-2 c =
-    let a = c .before .before .before .before .before .before .before .before .args in
-    let k = c .before in
-    let s = k .before .before .before .before .settle in
-    let e = ap settling-reply (sym (k .n2 .given .1)) ∙ s .ensures .0 in (
-      ap refusal-in e,
-      (
-        s .ensures .1,
-        (
-          ap (λ (x : Reply Ending). value-in arrivals-in x (a .arrivals .now)) e,
-          ap
-              (λ (x : Reply Ending). value-in done-in x (a .done .now)) e,
-        ),
-      ),
-    )
+    let s = c .before .before .before .before .before in
+    let a = s .before .before .before .args in
+    whole arrivals-in done-in (a .arrivals .now) (a .done .now) refl
+    (ap settling-reply (sym (c .before .n2 .given .1)) ∙ s .settle .ensures .0) (s .settle .ensures .1)
 
 same-length-3 : tie.Need-same-length-3
 same-length-3 c = search needs
 
 returns-3 : tie.Need-returns-3
 returns-3 c =
-    let a = c .before .before .before .before .before .before .before .before .before .args in
-    let k = c .before .before in
-    let s = k .before .before .before .before .settle in
-    let e = ap settling-reply (sym (k .r .given .1)) ∙ s .ensures .0 in (
-      c .number .ensures
-          ∙ ap refusal-in e,
-      (
-        s .ensures .1,
-        (
-          ap (λ (x : Reply Ending). value-in arrivals-in x (a .arrivals .now)) e,
-          ap
-              (λ (x : Reply Ending). value-in done-in x (a .done .now)) e,
-        ),
-      ),
-    )
+    let s = c .before .before .before .before .before .before in
+    let a = s .before .before .before .args in
+    whole arrivals-in done-in (a .arrivals .now) (a .done .now) (c .number .ensures)
+    (ap settling-reply (sym (c .before .before .r .given .1)) ∙ s .settle .ensures .0) (s .settle .ensures .1)
 
 pub wt-settle-spec : {M : Type 1} → statement M
 wt-settle-spec =

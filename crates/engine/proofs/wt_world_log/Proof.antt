@@ -1,11 +1,11 @@
 -- `engine::wt_world_log` meets its contract: a log that is there lies among the words. Assumes nothing.
 use mathlib.Core.Path.{_≡_, sym, ap, _∙_}
-use Prim.Native.Nat.{ℕ, _+_, _≤_, _<_}
+use Prim.Native.Nat.{_+_, _≤_, _<_}
 use native.Mathlib.Omega.{arith}
-use Rattle.world.specs.Words.{Reply, gives, log-start, length-reply}
+use Rattle.world.specs.Words.{gives, log-start, length-reply}
 use Rattle.world.specs.Answers.{log-length-reply}
 use Rattle.reading.specs.Tested.{logged, log-inside}
-use Rattle.engine.specs.Values.{refusal-in, value-in}
+use Rattle.engine.specs.Values.{refusal-in, values-same}
 use borrow.Author.Needs.{needs}
 use Rattle.engine.proofs.wt_world_log.Statement.{statement}
 use Rattle.engine.proofs.wt_world_log.Tie as tie
@@ -50,28 +50,17 @@ number-requires c κs = search needs
 returns : tie.Need-returns
 returns c =
     let a = c .before .before .before .before .before .before .args in
-    let e = replied (c .before) in (
-      ap refusal-in e,
-      (
-        c .start .ensures
-            ∙ ap (λ (x : Reply ℕ). value-in (λ _. log-start (a .p) (a .causal)) x (a .start .now)) e,
-        ap
-            (λ (x : Reply ℕ). value-in (λ n. n) x (a .items .now)) e,
-      ),
-    )
+    let e = replied (c .before) in
+    let v = values-same (λ _. log-start (a .p) (a .causal)) (λ n. n) (a .start .now) (a .items .now) e in
+    (ap refusal-in e, (c .start .ensures ∙ v .0, v .1))
 
 returns-2 : tie.Need-returns-2
 returns-2 c =
     let a = c .before .before .before .before .before .before .args in
     let k = c .before .before in
     let e = ap log-length-reply (sym (k .r .given .1)) ∙ k .before .before .log-length .ensures in (
-      c .number .ensures
-          ∙ ap refusal-in e,
-      (
-        ap (λ (x : Reply ℕ). value-in (λ _. log-start (a .p) (a .causal)) x (a .start .now)) e,
-        ap
-            (λ (x : Reply ℕ). value-in (λ n. n) x (a .items .now)) e,
-      ),
+      c .number .ensures ∙ ap refusal-in e,
+      values-same (λ _. log-start (a .p) (a .causal)) (λ n. n) (a .start .now) (a .items .now) e,
     )
 
 pub wt-world-log-spec : {M : Type 1} → statement M

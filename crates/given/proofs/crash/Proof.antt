@@ -1,7 +1,6 @@
 -- `given::crash` meets its contract. Assumes nothing.
 use mathlib.Core.Path.{refl, sym, ap, _∙_}
-use Rattle.world.specs.Setup.{byte}
-use Rattle.world.specs.Steps.{crashes, zeros-from}
+use Rattle.world.specs.Steps.{crashes}
 use Rattle.given.specs.Given.{read-yes, read-no}
 use borrow.Author.Needs.{needs}
 use Rattle.given.proofs.crash.Statement.{statement}
@@ -19,16 +18,14 @@ returns c =
     let b = i .before .before .before in
     let a = b .args in
     ap crashes (c .byte .ensures .0)
-    ∙ read-yes (a .bytes .now) 5 (zeros-from (a .bytes .now) 2) (crashes (byte (a .bytes .now) 1))
-    (b .pre .0) (b .pre .1) refl
+    ∙ read-yes (a .bytes .now) 5 _ _ (b .pre .0) (b .pre .1) refl
     (sym (i .before .zeros .ensures) ∙ i .if1 .taken)
 
 returns-2 : tie.Need-returns-2
 returns-2 c =
     let b = c .before .before .before in
     let a = b .args in
-    read-no (a .bytes .now) 5 (zeros-from (a .bytes .now) 2) (crashes (byte (a .bytes .now) 1)) (b .pre .0)
-    (b .pre .1) refl
+    read-no (a .bytes .now) 5 _ _ (b .pre .0) (b .pre .1) refl
     (sym (c .before .zeros .ensures) ∙ c .if1 .left)
 
 pub crash-spec : {M : Type 1} → statement M

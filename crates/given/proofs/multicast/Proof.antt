@@ -1,7 +1,6 @@
 -- `given::multicast` meets its contract. Assumes nothing.
 use mathlib.Core.Path.{refl, sym, ap₂, _∙_}
-use Rattle.world.specs.Setup.{byte}
-use Rattle.world.specs.Steps.{multicasts, zeros-from}
+use Rattle.world.specs.Steps.{multicasts}
 use Rattle.given.specs.Given.{read-yes, read-no}
 use borrow.Author.Needs.{needs}
 use Rattle.given.proofs.multicast.Statement.{statement}
@@ -25,16 +24,14 @@ returns c =
     let b = i .before .before .before in
     let a = b .args in
     ap₂ multicasts (c .before .byte .ensures .0) (c .byte2 .ensures .0)
-    ∙ read-yes (a .bytes .now) 1 (zeros-from (a .bytes .now) 3)
-    (multicasts (byte (a .bytes .now) 1) (byte (a .bytes .now) 2)) (b .pre .0) (b .pre .1) refl
+    ∙ read-yes (a .bytes .now) 1 _ _ (b .pre .0) (b .pre .1) refl
     (sym (i .before .zeros .ensures) ∙ i .if1 .taken)
 
 returns-2 : tie.Need-returns-2
 returns-2 c =
     let b = c .before .before .before in
     let a = b .args in
-    read-no (a .bytes .now) 1 (zeros-from (a .bytes .now) 3)
-    (multicasts (byte (a .bytes .now) 1) (byte (a .bytes .now) 2)) (b .pre .0) (b .pre .1) refl
+    read-no (a .bytes .now) 1 _ _ (b .pre .0) (b .pre .1) refl
     (sym (c .before .zeros .ensures) ∙ c .if1 .left)
 
 pub multicast-spec : {M : Type 1} → statement M

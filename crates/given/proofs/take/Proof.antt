@@ -14,11 +14,11 @@ byte-requires c κs = search needs
 multicast-requires : tie.Need-multicast-requires
 multicast-requires c κs = search needs
 
-arrival-requires : tie.Need-arrival-requires
-arrival-requires c κs = search needs
+letter-requires : tie.Need-letter-requires
+letter-requires c κs = search needs
 
-loss-requires : tie.Need-loss-requires
-loss-requires c κs = search needs
+letter-requires-2 : tie.Need-letter-requires-2
+letter-requires-2 c κs = search needs
 
 trust-requires : tie.Need-trust-requires
 trust-requires c κs = search needs
@@ -57,8 +57,8 @@ take-spec =
     returns
     byte-requires
     multicast-requires
-    arrival-requires
-    loss-requires
+    letter-requires
+    letter-requires-2
     trust-requires
     crash-requires
     returns-2

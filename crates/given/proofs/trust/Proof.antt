@@ -1,8 +1,7 @@
 -- `given::trust` meets its contract. Assumes nothing.
 use mathlib.Core.Path.{refl, sym, ap₂, _∙_}
 use Prim.Native.Nat.{ℕ, _+_, _*_}
-use Rattle.world.specs.Setup.{byte}
-use Rattle.world.specs.Steps.{trusts, zeros-from, word-at}
+use Rattle.world.specs.Steps.{trusts}
 use Rattle.given.specs.Given.{read-yes, read-no}
 use borrow.Author.Needs.{needs}
 use Rattle.given.proofs.trust.Statement.{statement}
@@ -36,16 +35,14 @@ returns c =
     let a = b .args in
     ap₂ trusts (c .before .before .byte .ensures .0)
     (ap₂ (λ (x y : ℕ). x + y * 256) (c .before .byte2 .ensures .0) (c .byte3 .ensures .0))
-    ∙ read-yes (a .bytes .now) 4 (zeros-from (a .bytes .now) 4)
-    (trusts (byte (a .bytes .now) 1) (word-at (a .bytes .now) 2)) (b .pre .0) (b .pre .1) refl
+    ∙ read-yes (a .bytes .now) 4 _ _ (b .pre .0) (b .pre .1) refl
     (sym (i .before .zeros .ensures) ∙ i .if1 .taken)
 
 returns-2 : tie.Need-returns-2
 returns-2 c =
     let b = c .before .before .before in
     let a = b .args in
-    read-no (a .bytes .now) 4 (zeros-from (a .bytes .now) 4)
-    (trusts (byte (a .bytes .now) 1) (word-at (a .bytes .now) 2)) (b .pre .0) (b .pre .1) refl
+    read-no (a .bytes .now) 4 _ _ (b .pre .0) (b .pre .1) refl
     (sym (c .before .zeros .ensures) ∙ c .if1 .left)
 
 pub trust-spec : {M : Type 1} → statement M

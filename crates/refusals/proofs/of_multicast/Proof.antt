@@ -1,101 +1,79 @@
 -- `refusals::of_multicast` meets its contract. Assumes nothing.
-use mathlib.Core.Path.{refl, sym, _∙_}
+use mathlib.Core.Path.{_≡_, refl, _∙_}
+use Prim.Native.Nat.{ℕ}
 use native.Mathlib.Omega.{arith}
-use borrow.Author.Tests.{lt-ltb, le-ltb, not-true, not-false}
-use Rattle.world.specs.World.{size, count, view}
-use Rattle.world.specs.Steps.{refusal}
-use Rattle.refusals.specs.Refused.{fails, passes}
+use lib.Dec.{ltb}
+use borrow.Author.Tests.{lt-ltb, le-ltb}
+use Rattle.base.specs.Refusals.{needs as test}
+use Rattle.world.specs.World.{count, view}
+use Rattle.world.specs.Steps.{multicasts, good-mask, refusal}
+use Rattle.world.specs.Answers.{outcome-number}
+use Rattle.refusals.specs.Refused.{fails, passes, process-refusal, front-refused, front-taken, multicast-front}
 use borrow.Author.Needs.{needs}
 use Rattle.refusals.proofs.of_multicast.Statement.{statement}
 use Rattle.refusals.proofs.of_multicast.Tie as tie
 
-word-requires : tie.Need-word-requires
-word-requires c κs = search needs
-
-returns : tie.Need-returns
-unfolding refusal
-returns c =
-    let a = c .before .before .before .args in
-    fails 5 _ (le-ltb (a .p) (view (a .w .now) size) (omega (arith, c .before .word .ensures, c .if1 .taken)))
-
 is-good-mask-requires : tie.Need-is-good-mask-requires
 is-good-mask-requires c κs = search needs
 
-returns-2 : tie.Need-returns-2
-unfolding refusal
-returns-2 c =
-    let a = c .before .before .before .before .before .args in
-    passes 5 _ (lt-ltb (a .p) (view (a .w .now) size)
-    (omega (arith, c .before .before .before .word .ensures, c .before .before .if1 .left)))
-    (fails 6 _ (sym (c .before .is-good-mask .ensures)
-    ∙ not-true (c .before .is-good-mask .result) (c .if2 .taken)))
+of-process-requires : tie.Need-of-process-requires
+of-process-requires c κs = search needs
 
-is-live-requires : tie.Need-is-live-requires
-is-live-requires c κs = search needs
+enum-known-r : tie.Need-enum-known-r
+enum-known-r c = search needs
+
+-- what is said of the process and the mask
+said : (c : tie.After-of-process)
+    → let a = c .before .before .before .args in
+    outcome-number (c .of-process .result)
+    ≡ process-refusal (view (a .w .now)) (a .p) (good-mask (view (a .w .now)) (a .groups)) 6
+said c = rw (c .before .is-good-mask .ensures) at (c .of-process .ensures)
+
+returns : tie.Need-returns
+returns c =
+    let x = c .before .r .given in
+    let o = c .before .before .before in
+    let a = o .before .before .before .args in
+    front-refused _ (x .0 .0) (x .1) (said o)
+    ∙ multicast-front (view (a .w .now)) (a .p) (a .groups)
+
+enum-told : tie.Need-enum-told
+enum-told c = search needs
+
+word-requires : tie.Need-word-requires
+word-requires c κs = search needs
+
+-- they are not refused, and the room decides
+room : (c : tie.After-enum-told) {x : ℕ}
+    → let a = c .before .before .before .before .before .args in
+    x ≡ test 10 (ltb (view (a .w .now) count) 64) 0 → x ≡ refusal (view (a .w .now)) (multicasts (a .p) (a .groups))
+room c e =
+    let o = c .before .before in
+    let a = o .before .before .before .args in
+    front-taken _ (c .enum-told .given .1) (said o) e
+    ∙ multicast-front (view (a .w .now)) (a .p) (a .groups)
+
+returns-2 : tie.Need-returns-2
+returns-2 c =
+    let a = c .before .before .before .before .before .before .before .args in
+    room (c .before .before)
+    (fails 10 0 (le-ltb (view (a .w .now) count) 64 (omega (arith, c .before .word .ensures, c .if1 .taken))))
 
 returns-3 : tie.Need-returns-3
-unfolding refusal
 returns-3 c =
     let a = c .before .before .before .before .before .before .before .args in
-    passes 5 _ (lt-ltb (a .p) (view (a .w .now) size)
-    (omega (
-      arith,
-      c .before .before .before .before .before .word .ensures,
-      c .before .before .before .before .if1 .left,
-    )))
-    (passes 6 _ (sym (c .before .before .before .is-good-mask .ensures)
-    ∙ not-false (c .before .before .before .is-good-mask .result) (c .before .before .if2 .left))
-    (fails 9 _ (sym (c .before .is-live .ensures) ∙ not-true (c .before .is-live .result) (c .if3 .taken))))
-
-word-requires-2 : tie.Need-word-requires-2
-word-requires-2 c κs = search needs
-
-returns-4 : tie.Need-returns-4
-unfolding refusal
-returns-4 c =
-    let a = c .before .before .before .before .before .before .before .before .before .args in
-    passes 5 _ (lt-ltb (a .p) (view (a .w .now) size)
-    (omega (
-      arith,
-      c .before .before .before .before .before .before .before .word .ensures,
-      c .before .before .before .before .before .before .if1 .left,
-    )))
-    (passes 6 _ (sym (c .before .before .before .before .before .is-good-mask .ensures)
-    ∙ not-false (c .before .before .before .before .before .is-good-mask .result)
-    (c .before .before .before .before .if2 .left))
-    (passes 9 _ (sym (c .before .before .before .is-live .ensures)
-    ∙ not-false (c .before .before .before .is-live .result) (c .before .before .if3 .left))
-    (fails 10 0 (le-ltb (view (a .w .now) count) 64
-    (omega (arith, c .before .word2 .ensures, c .if4 .taken))))))
-
-returns-5 : tie.Need-returns-5
-unfolding refusal
-returns-5 c =
-    let a = c .before .before .before .before .before .before .before .before .before .args in
-    passes 5 _ (lt-ltb (a .p) (view (a .w .now) size)
-    (omega (
-      arith,
-      c .before .before .before .before .before .before .before .word .ensures,
-      c .before .before .before .before .before .before .if1 .left,
-    )))
-    (passes 6 _ (sym (c .before .before .before .before .before .is-good-mask .ensures)
-    ∙ not-false (c .before .before .before .before .before .is-good-mask .result)
-    (c .before .before .before .before .if2 .left))
-    (passes 9 _ (sym (c .before .before .before .is-live .ensures)
-    ∙ not-false (c .before .before .before .is-live .result) (c .before .before .if3 .left))
-    (passes 10 0 (lt-ltb (view (a .w .now) count) 64
-    (omega (arith, c .before .word2 .ensures, c .if4 .left))) refl)))
+    room (c .before .before)
+    (passes 10 0 (lt-ltb (view (a .w .now) count) 64 (omega (arith, c .before .word .ensures, c .if1 .left))) refl)
 
 pub of-multicast-spec : {M : Type 1} → statement M
 of-multicast-spec =
     tie.close
     (tie.spec
-    word-requires
-    returns
     is-good-mask-requires
+    of-process-requires
+    enum-known-r
+    returns
+    enum-told
+    word-requires
     returns-2
-    is-live-requires
-    returns-3
-    word-requires-2
-    returns-4
-    returns-5)
+    returns-3)

@@ -22,14 +22,14 @@ of-multicast-requires c κs = bounded (c .before .before .before .before)
 enum-known-x-2 : tie.Need-enum-known-x-2
 enum-known-x-2 c = search needs
 
-of-arrival-requires : tie.Need-of-arrival-requires
-of-arrival-requires c κs = bounded (c .before .before .before .before)
+of-letter-requires : tie.Need-of-letter-requires
+of-letter-requires c κs = bounded (c .before .before .before .before)
 
 enum-known-x-3 : tie.Need-enum-known-x-3
 enum-known-x-3 c = search needs
 
-of-loss-requires : tie.Need-of-loss-requires
-of-loss-requires c κs = bounded (c .before .before .before .before)
+of-letter-requires-2 : tie.Need-of-letter-requires-2
+of-letter-requires-2 c κs = bounded (c .before .before .before .before)
 
 enum-known-x-4 : tie.Need-enum-known-x-4
 enum-known-x-4 c = search needs
@@ -54,12 +54,12 @@ returns c =
 returns-2 : tie.Need-returns-2
 returns-2 c =
     let v = c .before .before in
-    judged (view (v .before .before .before .args .w .now)) (v .x2 .given .1) (c .of-arrival .ensures)
+    judged (view (v .before .before .before .args .w .now)) (v .x2 .given .1) (c .of-letter .ensures)
 
 returns-3 : tie.Need-returns-3
 returns-3 c =
     let v = c .before .before in
-    judged (view (v .before .before .before .args .w .now)) (v .x3 .given .1) (c .of-loss .ensures)
+    judged (view (v .before .before .before .args .w .now)) (v .x3 .given .1) (c .of-letter2 .ensures)
 
 returns-4 : tie.Need-returns-4
 returns-4 c =
@@ -82,9 +82,9 @@ judge-spec =
     enum-known-x
     of-multicast-requires
     enum-known-x-2
-    of-arrival-requires
+    of-letter-requires
     enum-known-x-3
-    of-loss-requires
+    of-letter-requires-2
     enum-known-x-4
     of-trust-requires
     enum-known-x-5
