@@ -17,12 +17,13 @@ use Rattle.world.specs.World.{Cell, size, count, group, trust, up, fifo-length,
 use Rattle.world.specs.Layout.{put-same, put-at}
 use Rattle.world.specs.Sound.{Sound}
 use Rattle.world.specs.SoundLaws.{size-high, letter-facts, held-facts, mark-facts, sender-low, fifo-addressed}
-use Rattle.world.specs.Machine.{with-tables, addressed, addressees, in-turn, raised, stamped, numbered, multicast, leave, mark}
+use Rattle.world.specs.Machine.{with-tables, addressed, addressees, in-turn, raised, stamped, numbered, multicast, leave, mark, received}
 use Rattle.world.specs.Machine.{posted as post}
 use Rattle.world.specs.StepLaws.{InFlight}
 use Rattle.world.specs.History.{Event}
+use Rattle.world.specs.Kept.{mark-cases, hold-cases, holding}
 use Rattle.effects.specs.Views.{messages, Process, process, Ground, ground}
-use Rattle.effects.specs.Arrival.{Held, Fly, mark-cases, hold-cases, holding, arrived, mark-process, mark-ground, leave-flown, marked-held, marked-flight}
+use Rattle.effects.specs.Arrival.{Held, Fly, mark-process, mark-ground, leave-flown, marked-held, marked-flight}
 use Rattle.effects.specs.Holding.{sound-letter}
 use Rattle.effects.specs.Spent.{Once, once-then, leave-once, mark-once, hold-once, multicast-once, marked-low}
 use Rattle.order.specs.Knowledge.{knowledge}
@@ -115,8 +116,8 @@ module _ (s : State) (k m q p : ℕ) (l : InFlight s k m q p) (sound : Sound s)
     un-near : (x r : ℕ) → Near t x r → Near s x r
     un-near x r y = subst (λ (T : Type 0). T) (near-same x r) y
 
-    arrived-progress : Progress s t
-    arrived-progress = record {
+    received-progress : Progress s t
+    received-progress = record {
       same-size = size-same;
       same-to = λ x r _. to-same x r;
       same-sender = λ x _. ap (λ (g : Ground). g .messages .sender x) (a .ground-is);
@@ -254,10 +255,10 @@ module _ (s : State) (k m q p : ℕ) (l : InFlight s k m q p) (sound : Sound s)
         either-kind false e u hu au = inl (answered 1 u (ap (λ (c : Bool). pick c 2 1) e) hu au)
 
   -- an arrival before its cascade keeps what letters tell
-  pub arrived-net : Net (arrived s k m q p)
-  arrived-net =
-      net-progress s (arrived s k m q p)
-      (arrived-progress (arrived s k m q p)
+  pub received-net : Net (received s k m q p)
+  received-net =
+      net-progress s (received s k m q p)
+      (received-progress (received s k m q p)
       (hold-cases After (mark (leave s k m q p) k m q p) p m
       (λ e. after-old (sym (marked-held s k m q p p m) ∙ e))
       (λ e. after-new (λ d. e (marked-held s k m q p p m ∙ d)) (in-turn (mark (leave s k m q p) k m q p) p m)

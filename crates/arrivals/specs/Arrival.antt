@@ -9,8 +9,7 @@ use lib.ListN.{length}
 use Rattle.base.specs.Tests.{clash}
 use Rattle.world.specs.World.{held, State, encode, view, Changes}
 use Rattle.world.specs.Layout.{encode-view}
-use Rattle.world.specs.Machine.{ready, leave, mark, hold, arrival}
-use Rattle.keeps.specs.Cascade.{received}
+use Rattle.world.specs.Machine.{ready, leave, mark, hold, received, arrival}
 use Rattle.quiescence.specs.Quiescent.{QuiescentIf, MarkOnly, cascade-none, received-quiescent}
 use Rattle.receiving.specs.Receiving.{hold-held}
 

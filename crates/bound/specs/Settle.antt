@@ -11,12 +11,12 @@ use Rattle.world.specs.Sound.{Sound}
 use Rattle.world.specs.Setup.{setup-refusal}
 use Rattle.world.specs.Machine.{leave, arrival}
 use Rattle.world.specs.Steps.{arrives, step}
-use Rattle.world.specs.StepLaws.{Moves, Chosen, lowest-chosen}
+use Rattle.world.specs.StepLaws.{Moves, Chosen, lowest-chosen, moves-taken}
 use Rattle.world.specs.Settle.{Choice, letter, nothing, lowest, Ending, done, stopped, Settled, settle-from, settle}
 use Rattle.world.specs.History.{Item, on-states, run, started}
 use Rattle.keeps.specs.Keeps.{fresh-sound, step-sound, run-sound}
 use Rattle.effects.specs.Views.{Ground}
-use Rattle.effects.specs.Holding.{chosen-accepted, arrival-ground}
+use Rattle.effects.specs.Holding.{arrival-ground}
 use Rattle.effects.specs.Spent.{arrived-once, step-once}
 use Rattle.bound.specs.Once.{flying-spent}
 use Rattle.bound.specs.Potential.{sum, addressee-count, potential, cost-lower, potential-falls, leave-falls}
@@ -84,7 +84,7 @@ module _ (s : State) (k m q p : ℕ) (h : Sound s) (a : Moves s k m q p) where
   -- its arrival leaves the world sound
   sound-arrival : Sound (arrival s k m q p)
   unfolding step
-  sound-arrival = step-sound s (arrives k m q p) (chosen-accepted s k m q p a) h
+  sound-arrival = step-sound s (arrives k m q p) (moves-taken s k m q p a) h
 
   -- and lowers the potential
   pub moved-falls : potential (arrival s k m q p) < potential s
@@ -94,7 +94,7 @@ module _ (s : State) (k m q p : ℕ) (h : Sound s) (a : Moves s k m q p) where
       let g = arrival-ground s k m q p in
       potential-falls s (arrival s k m q p) (ap (λ (v : Ground). v .messages .total) g)
       (ap (λ (v : Ground). v .size) g)
-      (cost-lower (step-once s (arrives k m q p) (chosen-accepted s k m q p a)) g sound-arrival) k m q p
+      (cost-lower (step-once s (arrives k m q p) (moves-taken s k m q p a)) g sound-arrival) k m q p
       (l .kind) (l .message) (l .from) (l .to)
       (omega (
         arith,

@@ -3,7 +3,7 @@
 use mathlib.Core.Path.{_≡_, refl, sym, ap, ap₂, _∙_, subst}
 use mathlib.Core.Bool.{Bool, true, false, _&&_}
 use mathlib.Core.List.{List, [], _∷_}
-use Prim.Native.Nat.{ℕ, zero, suc, _+_, _-_, _≤_, _<_}
+use Prim.Native.Nat.{ℕ, zero, suc, _+_, _-_, _≤_}
 use native.Mathlib.Omega.{arith}
 use lib.Dec.{eqb}
 use lib.ListN.{length}
@@ -14,25 +14,17 @@ use Rattle.world.specs.Sound.{Sound}
 use Rattle.world.specs.SoundLaws.{size-high}
 use Rattle.world.specs.Setup.{setup-refusal, made}
 use Rattle.world.specs.Steps.{Step, multicasts, arrives, loses, trusts, crashes, malformed, read, accepted, step}
-use Rattle.world.specs.StepLaws.{lowest-moves}
+use Rattle.world.specs.StepLaws.{lowest-moves, moves-taken}
 use Rattle.world.specs.Settle.{lowest, settle-from}
 use Rattle.world.specs.SettleLaws.{Alike, settle-related}
 use Rattle.world.specs.Words.{making-refusal, made-words}
-use Rattle.world.specs.History.{Event, sent, got, deliveries, grown, gained, casted, on-states, on-words, Run, Item, given, settling, taken, tick, settles, act, run, started, started-words}
+use Rattle.world.specs.History.{Event, sent, deliveries, grown, gained, casted, on-states, on-words, Run, Item, given, settling, taken, tick, settles, act, run, started, started-words}
 use Rattle.keeps.specs.Keeps.{step-sound, run-sound}
-use Rattle.effects.specs.Holding.{chosen-accepted}
+use Rattle.effects.specs.Events.{deliveries-same}
 use Rattle.carried.specs.Same.{Agree, same}
 use Rattle.carried.specs.Calls.{view-agree, same-words, refusal-agree, step-agree, lowest-agree, sound-world}
 
 -- ---- the events
-deliveries-same : (p a n : ℕ) (f g : ℕ → ℕ) (es : List Event) → ((i : ℕ) → i < n → f (a + i) ≡ g (a + i))
-    → deliveries p a n f es ≡ deliveries p a n g es
-unfolding deliveries
-deliveries-same p a zero f g es h = refl
-deliveries-same p a (suc n) f g es h =
-    ap₂ (λ (x : ℕ) (l : List Event). got p x ∷ l) (h n (omega arith))
-    (deliveries-same p a n f g es (λ i l. h i (omega arith)))
-
 module _ {s s′ t t′ : State} (a : Agree s s′) (b : Agree t t′) where
   gained-agree : (n : ℕ) (es : List Event) → n ≤ 16 → gained n s t es ≡ gained n s′ t′ es
   unfolding gained
@@ -127,7 +119,7 @@ settle-carried r b h =
     (λ t u c. lowest-agree (view-agree (t .now) (c .sound))
     ∙ ap (λ (v : Run (List ℕ)). lowest (view (v .now))) (sym (c .same)))
     (λ t u k m q p c e.
-    let ok = chosen-accepted (t .now) k m q p (lowest-moves (t .now) k m q p e) in
+    let ok = moves-taken (t .now) k m q p (lowest-moves (t .now) k m q p e) in
     record {
       same = ap (λ (v : Run (List ℕ)). taken on-words v (arrives k m q p)) (c .same)
           ∙ taken-carried t (arrives k m q p) ok (c .sound);

@@ -15,11 +15,10 @@ use Rattle.base.specs.Bits.{bit}
 use Rattle.world.specs.World.{size, trust, up, State}
 use Rattle.world.specs.Setup.{setup-refusal}
 use Rattle.world.specs.Steps.{arrives, is-up, in-flight, step}
-use Rattle.world.specs.StepLaws.{Moves, Chosen, lowest-chosen, lowest-moves}
+use Rattle.world.specs.StepLaws.{Moves, Chosen, lowest-chosen, lowest-moves, moves-taken}
 use Rattle.world.specs.Settle.{nothing, moves, lowest, Settled, settle-from}
 use Rattle.world.specs.History.{Run, Item, on-states, taken, run, started, Fair, TrustRule}
 use Rattle.effects.specs.Views.{Ground, ground}
-use Rattle.effects.specs.Holding.{chosen-accepted}
 use Rattle.order.specs.Runs.{Whole, whole-started, whole-step}
 use Rattle.order.specs.Order.{reached}
 use Rattle.agreement.specs.Turns.{Live}
@@ -94,7 +93,7 @@ module _ (setup : List ℕ) (items : List Item) (ok : setup-refusal setup ≡ 0)
         ended (During live r) (λ t d. d .whole)
         (λ t k m q p a d. arrival-during live r t k m q p
         (along-ends live (started setup) items (rule .in-force))
-        (chosen-accepted (t .now) k m q p a) d)
+        (moves-taken (t .now) k m q p a) d)
         (record {
           whole = w;
           lives =
@@ -137,7 +136,7 @@ module _ (setup : List ℕ) (items : List Item) (ok : setup-refusal setup ≡ 0)
       whole-arrival : (t : Run State) (k m q p : ℕ) → Moves (t .now) k m q p → Whole t
           → Whole (taken on-states t (arrives k m q p))
       whole-arrival t k m q p a z =
-          whole-step (t .now) (t .seen) (arrives k m q p) (chosen-accepted (t .now) k m q p a) z
+          whole-step (t .now) (t .seen) (arrives k m q p) (moves-taken (t .now) k m q p a) z
 
       plain : (b : ℕ) → Ended (λ t. lowest (t .now)) (λ t k m q p. taken on-states t (arrives k m q p)) Whole
           (λ t. potential (t .now)) b 0 (run on-states (started setup) items)

@@ -2,43 +2,16 @@
 -- leaves, a mark is set, a message is held and answered: none of these touches a process's record, the
 -- messages, or who is up and trusted. Assumes nothing.
 use mathlib.Core.Path.{_≡_, refl, sym, _∙_, subst}
-use mathlib.Core.Bool.{Bool, true, false}
+use mathlib.Core.Bool.{true}
 use Prim.Native.Nat.{ℕ}
-use lib.Dec.{eqb}
-use borrow.Author.Tests.{eqb-true, eqb-false}
-use mathlib.Core.Logic.{_⊎_, inl, inr, _≢_}
+use mathlib.Core.Logic.{_⊎_, inl, inr}
 use native.Mathlib.Decide.{ℕ-discrete}
-use Rattle.base.specs.Tests.{pick}
-use Rattle.base.specs.Bits.{bit, with, without, without-old, without-other}
-use Rattle.world.specs.World.{Cell, marks, held, flight, State, put}
+use Rattle.base.specs.Bits.{bit, without, without-old, without-other}
+use Rattle.world.specs.World.{Cell, held, flight, State, put}
 use Rattle.world.specs.Layout.{put-at}
-use Rattle.world.specs.Machine.{addressees, in-turn, leave, mark, hold}
+use Rattle.world.specs.Kept.{mark-cases, hold-cases, marked-keeps, received-keeps}
+use Rattle.world.specs.Machine.{leave, mark, received}
 use Rattle.effects.specs.Views.{process, ground}
-
--- ---- a mark, and a message held, by cases
--- the mark of q for m is set at p, if the letter is an OK
-pub mark-cases : (P : State → Type 0) (s : State) (k m q p : ℕ)
-    → (k ≡ 2 → P (put s (marks p m) (with (s (marks p m)) q))) → (k ≢ 2 → P s) → P (mark s k m q p)
-unfolding mark
-mark-cases P s k m q p set unset = go (eqb k 2) refl
-  where
-    go : (b : Bool) → eqb k 2 ≡ b → P (pick b (put s (marks p m) (with (s (marks p m)) q)) s)
-    go true e = set (eqb-true k 2 e)
-    go false e = unset (eqb-false k 2 e)
-
--- p holds m, and answers it by a letter of kind k to all addressees
-abbrev pub holding : State → ℕ → ℕ → ℕ → State
-holding s p m k = put (put s (held p m) 1) (flight m k p) (addressees s m)
-
--- p holds m now, if it did not before, and answers it
-pub hold-cases : (P : State → Type 0) (s : State) (p m : ℕ) → (s (held p m) ≡ 1 → P s)
-    → (s (held p m) ≢ 1 → P (holding s p m (pick (in-turn s p m) 2 1))) → P (hold s p m)
-unfolding hold
-hold-cases P s p m old new = go (eqb (s (held p m)) 1) refl
-  where
-    go : (b : Bool) → eqb (s (held p m)) 1 ≡ b → P (pick b s (holding s p m (pick (in-turn s p m) 2 1)))
-    go true e = old (eqb-true (s (held p m)) 1 e)
-    go false e = new (eqb-false (s (held p m)) 1 e)
 
 -- ---- r holds m; the letter of kind k for m from q to u flies
 abbrev pub Held : State → ℕ → ℕ → Type 0
@@ -72,13 +45,14 @@ module _ (s : State) (k m q p : ℕ) where
       go e (no d) =
           inr (without-other (s (flight m k q)) p u d ∙ subst (λ (c : Cell). bit (s c) u ≡ true) (sym e) z)
 
-  -- ---- then the mark is set
+-- ---- what an arrival before its cascade leaves
+module _ (s : State) (k m q p : ℕ) where
+  -- marking concerns nothing that is held
   pub marked-held : (r x : ℕ) → mark (leave s k m q p) k m q p (held r x) ≡ s (held r x)
-  unfolding leave put
-  marked-held r x =
-      mark-cases (λ t. t (held r x) ≡ s (held r x)) (leave s k m q p) k m q p (λ _. refl) (λ _. refl)
+  unfolding put
+  marked-held r x = marked-keeps s k m q p (λ t. t (held r x)) (λ _ _ _ _. refl) (λ _ _. refl)
 
-  -- marking concerns no letter
+  -- no letter
   pub marked-flight : (x j o : ℕ)
       → mark (leave s k m q p) k m q p (flight x j o) ≡ leave s k m q p (flight x j o)
   unfolding put
@@ -86,33 +60,32 @@ module _ (s : State) (k m q p : ℕ) where
       mark-cases (λ t. t (flight x j o) ≡ leave s k m q p (flight x j o)) (leave s k m q p) k m q p
       (λ _. refl) (λ _. refl)
 
--- ---- the state in which the cascade of an arrival begins
-abbrev pub arrived : State → ℕ → ℕ → ℕ → ℕ → State
-arrived s k m q p = hold (mark (leave s k m q p) k m q p) p m
+  -- no record
+  pub mark-process : (r : ℕ) → process (mark (leave s k m q p) k m q p) r ≡ process s r
+  unfolding put
+  mark-process r = marked-keeps s k m q p (λ t. process t r) (λ _ _ _ _. refl) (λ _ _. refl)
 
--- nor a record
-pub mark-process : (s : State) (k m q p r : ℕ) → process (mark (leave s k m q p) k m q p) r ≡ process s r
-unfolding leave put
-mark-process s k m q p r =
-    mark-cases (λ t. process t r ≡ process s r) (leave s k m q p) k m q p (λ _. refl) (λ _. refl)
+  -- nor size, messages, groups, trust and who is up
+  pub mark-ground : ground (mark (leave s k m q p) k m q p) ≡ ground s
+  unfolding put
+  mark-ground = marked-keeps s k m q p ground (λ _ _ _ _. refl) (λ _ _. refl)
 
--- an arrival before its cascade leaves every process's record
-pub arrived-process : (s : State) (k m q p r : ℕ) → process (arrived s k m q p) r ≡ process s r
-unfolding put
-arrived-process s k m q p r =
-    hold-cases (λ t. process t r ≡ process s r) (mark (leave s k m q p) k m q p) p m
-    (λ _. mark-process s k m q p r)
-    (λ _. mark-process s k m q p r)
+  -- an arrival before its cascade leaves every process's record
+  pub received-process : (r : ℕ) → process (received s k m q p) r ≡ process s r
+  unfolding put
+  received-process r = received-keeps s k m q p (λ t. process t r) (λ _ _ _ _. refl) (λ _ _. refl) (λ _ _. refl)
 
--- marking leaves size, messages, groups, trust and who is up
-pub mark-ground : (s : State) (k m q p : ℕ) → ground (mark (leave s k m q p) k m q p) ≡ ground s
-unfolding leave put
-mark-ground s k m q p =
-    mark-cases (λ t. ground t ≡ ground s) (leave s k m q p) k m q p (λ _. refl) (λ _. refl)
+  -- and the ground
+  pub received-ground : ground (received s k m q p) ≡ ground s
+  unfolding put
+  received-ground = received-keeps s k m q p ground (λ _ _ _ _. refl) (λ _ _. refl) (λ _ _. refl)
 
--- so does an arrival before its cascade
-pub arrived-ground : (s : State) (k m q p : ℕ) → ground (arrived s k m q p) ≡ ground s
-unfolding put
-arrived-ground s k m q p =
-    hold-cases (λ t. ground t ≡ ground s) (mark (leave s k m q p) k m q p) p m (λ _. mark-ground s k m q p)
-    (λ _. mark-ground s k m q p)
+  -- what is held then was held before, or it is m at p
+  pub received-held : (r x : ℕ) → Held (received s k m q p) r x → Held s r x ⊎ ((p ≡ r) × (m ≡ x))
+  unfolding put
+  received-held r x =
+      hold-cases (λ t. Held t r x → Held s r x ⊎ ((p ≡ r) × (m ≡ x))) (mark (leave s k m q p) k m q p) p m
+      (λ _ d. inl (sym (marked-held r x) ∙ d))
+      (λ _. put-at (mark (leave s k m q p) k m q p) (held p m) (held r x) _
+      (λ v. v ≡ 1 → Held s r x ⊎ ((p ≡ r) × (m ≡ x))) (λ e _. inr (cc, cc))
+      (λ _ d. inl (sym (marked-held r x) ∙ d)))

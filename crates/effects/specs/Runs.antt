@@ -6,11 +6,10 @@ use mathlib.Core.List.{List, [], _∷_}
 use Rattle.base.specs.Tests.{pick}
 use Rattle.world.specs.World.{State}
 use Rattle.world.specs.Steps.{Step, arrives, read, accepted}
-use Rattle.world.specs.StepLaws.{lowest-moves}
+use Rattle.world.specs.StepLaws.{lowest-moves, moves-taken}
 use Rattle.world.specs.Settle.{lowest}
 use Rattle.world.specs.SettleLaws.{settle-keeps}
 use Rattle.world.specs.History.{Run, Item, given, settling, on-states, taken, tick, settles, act, run}
-use Rattle.effects.specs.Holding.{chosen-accepted}
 
 module _ (P : Run State → Type 0)
     (keep : (r : Run State) (x : Step) → accepted (r .now) x ≡ true → P r → P (taken on-states r x)) where
@@ -25,7 +24,7 @@ module _ (P : Run State → Type 0)
   act-keeps r (settling b) w =
       settle-keeps (λ t. lowest (t .now)) (λ t k m q p. taken on-states t (arrives k m q p)) P
       (λ t k m q p e. keep t (arrives k m q p)
-      (chosen-accepted (t .now) k m q p (lowest-moves (t .now) k m q p e))) b 0 r w
+      (moves-taken (t .now) k m q p (lowest-moves (t .now) k m q p e))) b 0 r w
 
   -- a list
   pub run-keeps : (r : Run State) (items : List Item) → P r → P (run on-states r items)

@@ -4,7 +4,6 @@
 -- nothing.
 use mathlib.Core.Path.{_≡_, refl, ap, _∙_, subst, subst₂}
 use mathlib.Core.Bool.{Bool, true, false}
-use mathlib.Core.List.{[]}
 use mathlib.Core.Logic.{_⊎_, inl, inr, _≢_}
 use Prim.Native.Nat.{ℕ, zero, suc, _-_, _≤_, _<_}
 use native.Mathlib.Omega.{arith}
@@ -18,9 +17,10 @@ use Rattle.world.specs.Machine.{with-tables, addressees, in-turn, ready, fifo-o
 use Rattle.world.specs.Machine.{posted as post}
 use Rattle.world.specs.Steps.{Step, multicasts, arrives, loses, trusts, crashes, malformed, accepted, step}
 use Rattle.world.specs.StepLaws.{accepted-arrival}
+use Rattle.world.specs.Kept.{mark-cases, hold-cases, holding}
 use Rattle.effects.specs.Views.{Still}
 use Rattle.effects.specs.Cascade.{Near, near-on, ok-far, ok-near, letter-cases, fifo-one-still}
-use Rattle.effects.specs.Arrival.{mark-cases, hold-cases, Held, Fly, holding, leave-less}
+use Rattle.effects.specs.Arrival.{Held, Fly, leave-less}
 
 -- ---- a letter that cannot be sent any more
 abbrev pub SentBy : State → ℕ → ℕ → ℕ → Type 0

@@ -5,7 +5,7 @@ use mathlib.Core.Path.{_≡_, refl, sym, ap, ap₂, _∙_, subst}
 use mathlib.Core.Bool.{Bool, true, false, _&&_}
 use mathlib.Core.List.{List, _∷_}
 use mathlib.Core.Logic.{inl, inr, _≢_}
-use Prim.Native.Nat.{ℕ, zero, suc, _+_, _-_, _≤_, _<_}
+use Prim.Native.Nat.{ℕ, suc, _+_, _-_, _≤_, _<_}
 use native.Mathlib.Omega.{arith}
 use lib.Dec.{leb, eqb}
 use borrow.Author.Tests.{eqb-true, eqb-false, ne-eqb, leb-true, leb-false}
@@ -18,6 +18,7 @@ use Rattle.world.specs.Machine.{with-tables, addressed, in-turn, outside-fifo, 
 use Rattle.world.specs.History.{Event, got, deliveries, grown}
 use Rattle.world.specs.Fuel.{causal-ends}
 use Rattle.effects.specs.Holding.{HeldTo, held-to}
+use Rattle.effects.specs.Events.{deliveries-same}
 use Rattle.effects.specs.Views.{Messages, messages, Process, process, Ground, ground, Still, still}
 use Rattle.effects.specs.Cascade.{fifo-delivered, causal-delivered, fifo-started, fifo-started-here, fifo-started-there, causal-one-here, causal-one-there, fifo-middle, fifo-middle-still, fifo-one-process, fifo-one-still, fifo-one-there}
 use Rattle.order.specs.Knowledge.{Knowledge, learn, knowledge}
@@ -207,15 +208,6 @@ meaning-fifo s es p m y hm tm o = record {
 abbrev events : ℕ → ℕ → Process → List Event → List Event
 events p a r es = deliveries p a (r .causal-length - a) (r .causal) es
 
--- deliveries read off equal items
-deliveries-same : (p a n : ℕ) (f g : ℕ → ℕ) (es : List Event) → ((i : ℕ) → i < a + n → f i ≡ g i)
-    → deliveries p a n f es ≡ deliveries p a n g es
-unfolding deliveries
-deliveries-same p a zero f g es h = refl
-deliveries-same p a (suc n) f g es h =
-    ap₂ (λ (x : ℕ) (l : List Event). got p x ∷ l) (h (a + n) (omega arith))
-    (deliveries-same p a n f g es (λ i l. h i (omega arith)))
-
 -- one causal delivery adds its event
 grown-one : (p a i : ℕ) (s : State) (es : List Event) → a ≤ s (causal-length p)
     → grown p a (causal-one s p i) es ≡ got p (s (fifo p i)) ∷ grown p a s es
@@ -231,7 +223,7 @@ grown-one p a i s es h =
     ∙ ap₂ (λ (x : ℕ) (l : List Event). got p x ∷ l)
     (ap (causal-delivered (messages s) (process s p) m .causal) f ∙ at-here log n m)
     (deliveries-same p a (n - a) (causal-delivered (messages s) (process s p) m .causal) log es
-    (λ j l. at-else log n m j (omega arith)))
+    (λ j l. at-else log n m (a + j) (omega arith)))
 
 -- ---- the causal deliveries, all
 -- the causal deliveries at p that are under way; a is where its causal log ended before the step

@@ -5,27 +5,27 @@
 use mathlib.Core.Path.{_≡_, refl, sym, ap, _∙_, subst}
 use mathlib.Core.Bool.{true}
 use mathlib.Core.List.{List, [], _∷_}
-use mathlib.Core.Logic.{_⊎_, inl, inr, _≢_}
-use Prim.Native.Nat.{ℕ, zero, suc, _-_, _<_}
+use mathlib.Core.Logic.{_⊎_, inl, inr}
+use Prim.Native.Nat.{ℕ, suc, _-_, _<_}
 use native.Mathlib.Omega.{arith}
 use native.Mathlib.Nat.{not-suc-le-zero}
-use native.Mathlib.Decide.{ℕ-discrete}
 use lib.Dec.{ltb}
 use Rattle.base.specs.Tests.{pick-le, both}
 use Rattle.base.specs.Count.{tally}
-use Rattle.world.specs.World.{size, count, trust, causal-length, causal, sender, up, State, put}
+use Rattle.world.specs.World.{size, count, trust, causal-length, sender, up, State, put}
 use Rattle.world.specs.Sound.{Sound}
 use Rattle.world.specs.Setup.{byte, fresh, setup-group, setup-refusal, made}
-use Rattle.world.specs.Machine.{cascade, multicast, leave, arrival, trust-set, crash}
+use Rattle.world.specs.Machine.{cascade, multicast, leave, received, arrival, trust-set, crash}
 use Rattle.world.specs.Steps.{Step, multicasts, arrives, loses, trusts, crashes, malformed, accepted, step}
 use Rattle.world.specs.StepLaws.{accepted-multicast, accepted-arrival, accepted-trust}
-use Rattle.world.specs.History.{Event, sent, At, deliveries, grown, gained, on-states, Run, Item, taken, act, run, started}
+use Rattle.world.specs.History.{Event, sent, At, gained, on-states, Run, Item, taken, act, run, started}
 use Rattle.keeps.specs.Keeps.{fresh-sound, step-sound}
 use Rattle.effects.specs.Views.{Messages, messages, Process, ground, Ground, Still}
 use Rattle.effects.specs.Views.{process as own}
-use Rattle.effects.specs.Arrival.{arrived, arrived-process, arrived-ground}
+use Rattle.effects.specs.Arrival.{received-process, received-ground}
+use Rattle.effects.specs.Events.{gained-keeps, grown-none, gained-none, gained-one}
 use Rattle.effects.specs.Runs.{act-keeps, run-keeps}
-use Rattle.effects.specs.Holding.{HeldTo, arrived-held, trusted-held}
+use Rattle.effects.specs.Holding.{HeldTo, received-to, trusted-held}
 use Rattle.order.specs.Knowledge.{knowledge, closed-fresh}
 use Rattle.order.specs.Precedence.{Formed, Newest, at-cases, no-event, old-cast, cast-low}
 use Rattle.order.specs.Counters.{OneMore}
@@ -44,75 +44,6 @@ pub record Whole (r : Run State) : Type 0 where
   pub formed : Formed (r .now count) (r .seen)
   -- who multicast a message is its sender
   pub senders : (i q m : ℕ) → At (r .seen) i (sent q m) → r .now (sender m) ≡ q
-
--- ---- the events of a step
-formed-deliveries : (n p a k : ℕ) (log : ℕ → ℕ) (es : List Event) → Formed n es
-    → Formed n (deliveries p a k log es)
-unfolding deliveries
-formed-deliveries n p a zero log es h = h
-formed-deliveries n p a (suc k) log es h = formed-deliveries n p a k log es h
-
--- the events of a step add no multicast
-formed-gained : (n k : ℕ) (s t : State) (es : List Event) → Formed n es → Formed n (gained k s t es)
-unfolding gained
-formed-gained n zero s t es h = h
-formed-gained n (suc k) s t es h =
-    formed-deliveries n k (s (causal-length k)) (t (causal-length k) - s (causal-length k))
-    (λ i. t (causal k i))
-    (gained k s t es) (formed-gained n k s t es h)
-
--- so a multicast of a longer history is one of the shorter
-at-deliveries : (p a k : ℕ) (log : ℕ → ℕ) (es : List Event) {i q m : ℕ}
-    → At (deliveries p a k log es) i (sent q m)
-    → At es i (sent q m)
-unfolding deliveries
-at-deliveries p a zero log es x = x
-at-deliveries p a (suc k) log es x = at-deliveries p a k log es (old-cast x)
-
--- the same of a step
-at-gained : (k : ℕ) (s t : State) (es : List Event) {i q m : ℕ} → At (gained k s t es) i (sent q m)
-    → At es i (sent q m)
-unfolding gained
-at-gained zero s t es x = x
-at-gained (suc k) s t es x =
-    at-gained k s t es
-    (at-deliveries k (s (causal-length k)) (t (causal-length k) - s (causal-length k)) (λ i. t (causal k i))
-    (gained k s t es) x)
-
--- a log that has not grown gives none
-grown-none : (p : ℕ) (s t : State) (es : List Event) → t (causal-length p) ≡ s (causal-length p)
-    → grown p (s (causal-length p)) t es ≡ es
-unfolding deliveries
-grown-none p s t es e =
-    let z : t (causal-length p) - s (causal-length p) ≡ 0 = omega arith in
-    ap (λ (n : ℕ). deliveries p (s (causal-length p)) n (λ i. t (causal p i)) es) z
-
--- logs that have not grown give none
-gained-none : (n : ℕ) (s t : State) (es : List Event)
-    → ((r : ℕ) → r < n → t (causal-length r) ≡ s (causal-length r))
-    → gained n s t es ≡ es
-unfolding gained
-gained-none zero s t es h = refl
-gained-none (suc n) s t es h =
-    ap (grown n (s (causal-length n)) t) (gained-none n s t es (λ r l. h r (omega arith)))
-    ∙ grown-none n s t es (h n (omega arith))
-
--- where only the log of p has grown
-gained-one : (n p : ℕ) (s t : State) (es : List Event) → p < n
-    → ((r : ℕ) → p ≢ r → t (causal-length r) ≡ s (causal-length r))
-    → gained n s t es ≡ grown p (s (causal-length p)) t es
-unfolding gained
-gained-one zero p s t es l h = absurd (not-suc-le-zero l)
-gained-one (suc n) p s t es l h = go (ℕ-discrete p n) (λ k. gained-one n p s t es k h)
-  where
-    go : Dec (p ≡ n) → (p < n → gained n s t es ≡ grown p (s (causal-length p)) t es)
-        → grown n (s (causal-length n)) t (gained n s t es) ≡ grown p (s (causal-length p)) t es
-    go (yes e) ih =
-        ap (grown n (s (causal-length n)) t) (gained-none n s t es (λ r k. h r (omega arith)))
-        ∙ ap (λ (x : ℕ). grown x (s (causal-length x)) t es) (sym e)
-    go (no e) ih =
-        ap (grown n (s (causal-length n)) t) (ih (omega arith))
-        ∙ grown-none n s t (grown p (s (causal-length p)) t es) (h n e)
 
 -- ---- a fresh world
 fresh-meaning : (n : ℕ) (groups : ℕ → ℕ) → MeaningOf (fresh n groups) []
@@ -162,6 +93,13 @@ whole-started setup ok = record {
   senders = λ i q m a. absurd (no-event a);
 }
 
+-- ---- the multicasts of a longer history are those of the shorter
+old-sent : (s t : State) (es : List Event) {i q m : ℕ} → At (gained (s size) s t es) i (sent q m)
+    → At es i (sent q m)
+old-sent s t es {i} {q} {m} =
+    gained-keeps (λ l. At l i (sent q m) → At es i (sent q m)) (λ _ _ _ h a. h (old-cast a)) (s size) s t es
+    (λ a. a)
+
 -- ---- a step that adds no message
 whole-after : (s t : State) (es : List Event) → messages t ≡ messages s → Sound t
     → MeaningOf t (gained (s size) s t es) → QuietOf t
@@ -171,9 +109,9 @@ whole-after s t es e d o q w = record {
   meaning = o;
   quiet = q;
   formed = subst (λ (n : ℕ). Formed n (gained (s size) s t es)) (sym (ap (λ (v : Messages). v .total) e))
-      (formed-gained (s count) (s size) s t es (w .formed));
+      (gained-keeps (Formed (s count)) (λ _ _ _ h. h) (s size) s t es (w .formed));
   senders = λ i q m a. ap (λ (v : Messages). v .sender m) e
-      ∙ w .senders i q m (at-gained (s size) s t es a);
+      ∙ w .senders i q m (old-sent s t es a);
 }
 
 -- a step at p up to its cascade, or a step without one: t is the state then
@@ -237,15 +175,16 @@ whole-step s es (multicasts p groups) e w =
       formed =
           subst (λ (n : ℕ). Formed n (gained (s size) s t (sent p (s count) ∷ es)))
           (sym (multicast-count s p groups))
-          (formed-gained (suc (s count)) (s size) s t (sent p (s count) ∷ es) (refl, w .formed));
+          (gained-keeps (Formed (suc (s count))) (λ _ _ _ h. h) (s size) s t (sent p (s count) ∷ es)
+          (refl, w .formed));
       senders = λ i q m b.
-          multicast-senders s es p groups w i q m (at-gained (s size) s t (sent p (s count) ∷ es) b);
+          multicast-senders s es p groups w i q m (old-sent s t (sent p (s count) ∷ es) b);
     }
 whole-step s es (arrives k m q p) e w =
     let l = accepted-arrival s k m q p e .letter in
-    let g = arrived-ground s k m q p in
-    whole-cascade s (arrived s k m q p) es (ap (λ (v : Ground). v .messages) g) (ap (λ (v : Ground). v .size) g)
-    (arrived-process s k m q p) p (l .to) (arrived-held s (w .sound) k m q p l)
+    let g = received-ground s k m q p in
+    whole-cascade s (received s k m q p) es (ap (λ (v : Ground). v .messages) g) (ap (λ (v : Ground). v .size) g)
+    (received-process s k m q p) p (l .to) (received-to s (w .sound) k m q p l)
     (step-sound s (arrives k m q p) e (w .sound)) w
 whole-step s es (loses k m q p) e w =
     whole-plain s (leave s k m q p) es refl refl (λ r. refl) (step-sound s (loses k m q p) e (w .sound)) w

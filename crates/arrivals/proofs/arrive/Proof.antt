@@ -2,10 +2,9 @@
 use mathlib.Core.Path.{_≡_, sym, ap, _∙_}
 use borrow.Author.Needs.{needs}
 use Rattle.world.specs.Layout.{encode-view}
-use Rattle.world.specs.Machine.{leave, mark, arrival}
+use Rattle.world.specs.Machine.{leave, mark, received, arrival}
 use Rattle.world.specs.World.{State, encode, view}
 use Rattle.bounds.specs.Bounds.{Bounds, bounds-words}
-use Rattle.keeps.specs.Cascade.{received}
 use Rattle.receiving.specs.Receiving.{bounds-marked, bounds-hold}
 use Rattle.arrivals.specs.Arrival.{received-law, over-law, mark-only}
 use Rattle.arrivals.proofs.arrive.Statement.{statement}
