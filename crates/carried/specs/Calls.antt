@@ -7,7 +7,7 @@ use mathlib.Core.List.{List, []}
 use Prim.Native.Nat.{ℕ, _-_, _^_, _<_}
 use native.Mathlib.Omega.{arith}
 use lib.Dec.{ltb, eqb}
-use lib.ListN.{length, take, drop}
+use lib.ListN.{length, take, drop, getD}
 use borrow.Author.Tests.{ltb-true, eq-eqb, lt-ltb}
 use Rattle.base.specs.Tests.{pick, both-l, both-r, clash}
 use Rattle.base.specs.Refusals.{needs}
@@ -25,7 +25,9 @@ use Rattle.world.specs.SettleLaws.{Alike, settle-related}
 use Rattle.world.specs.Words.{needs-world, making-refusal, made-words, gives, reply, step-refusal, stepped-words, settle-words, settled-words, settle-reply, log-length, log-start, log-refusal, log-words}
 use Rattle.keeps.specs.Keeps.{step-sound}
 use Rattle.carried.specs.Same.{Fits, Agree, same, process-low, message-low, leave-agree, arrival-agree, trust-agree, crash-agree, multicast-agree}
-use Rattle.base.specs.Tabulate.{tabulate}
+use Rattle.base.specs.Tabulate.{tabulate, length-tabulate, getD-tabulate}
+use Rattle.base.specs.Count.{In, in-at}
+use Rattle.world.specs.Demand.{Listed}
 use Rattle.world.specs.Machine.{arrival}
 
 -- ---- refusals
@@ -366,3 +368,15 @@ module _ (s : State) (h : Sound s) (p : ℕ) (hp : p < s size) where
       ap₂ (λ (n l : ℕ). pick (eqb n 0) (take l (drop (log-start p log) (encode s))) []) log-taken
       (read-length log)
       ∙ part log
+
+-- ---- a log as a list
+pub listed-in : {n m : ℕ} {log : ℕ → ℕ} {xs : List ℕ} → xs ≡ tabulate n log → Listed xs m → In n log m
+listed-in {n} {m} {log} {xs} e (in-at i l d) =
+    let k : i < n = omega (arith, ap length e, length-tabulate n log) in
+    in-at i k (sym (getD-tabulate n log i 0 k) ∙ ap (λ (l : List ℕ). getD l i 0) (sym e) ∙ d)
+
+-- and the other way round
+pub in-listed : {n m : ℕ} {log : ℕ → ℕ} {xs : List ℕ} → xs ≡ tabulate n log → In n log m → Listed xs m
+in-listed {n} {m} {log} {xs} e (in-at i l d) =
+    in-at i (omega (arith, ap length e, length-tabulate n log))
+    (ap (λ (l : List ℕ). getD l i 0) e ∙ getD-tabulate n log i 0 l ∙ d)

@@ -31,10 +31,10 @@ use Rattle.order.specs.Cascade.{Fifo}
 use Rattle.order.specs.Order.{causal-past, past-causal, causal-once, causal-ordered}
 use Rattle.agreement.specs.Agreement.{Agreed as AgreedStates}
 use Rattle.bound.specs.Settle.{arrivals, SaysDone as EndsDone}
-use Rattle.carried.specs.Calls.{log-carried}
+use Rattle.carried.specs.Calls.{log-carried, listed-in, in-listed}
 use Rattle.carried.specs.Carried.{written, run-carried, setup-taken, start-carried}
 use Rattle.demand.specs.States.{settled, Demand3States, demand-3-states}
-use Rattle.demand.specs.Words.{listed-in, in-listed, size-read, to-read, settled-sound, settled-carried, answer-carried, fair-read, run-size, along-read}
+use Rattle.demand.specs.Words.{size-read, to-read, settled-sound, settled-carried, answer-carried, fair-read, run-size, along-read}
 
 -- ---- conclusions 1 and 2
 module _ (r : Run State) (h : Sound (r .now)) (w : Whole r) where

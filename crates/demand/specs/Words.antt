@@ -6,41 +6,23 @@ use mathlib.Core.Bool.{Bool, true}
 use mathlib.Core.List.{List, [], _∷_}
 use Prim.Native.Nat.{ℕ, _<_}
 use native.Mathlib.Omega.{arith}
-use lib.ListN.{length, getD}
-use Rattle.base.specs.Count.{In, in-at}
-use Rattle.base.specs.Tabulate.{tabulate, length-tabulate, getD-tabulate}
 use Rattle.base.specs.Bits.{bit}
-use Rattle.world.specs.World.{size, group, trust, up, mask, State, put, encode, view}
+use Rattle.world.specs.World.{size, group, trust, up, mask, State, encode, view}
 use Rattle.world.specs.Layout.{get-encode}
 use Rattle.world.specs.Sound.{Sound}
 use Rattle.world.specs.SoundLaws.{size-high}
-use Rattle.world.specs.Machine.{with-tables, addressed, raised, stamped, numbered, posted, multicast, leave, arrival, trust-set, crash}
-use Rattle.world.specs.Steps.{Step, multicasts, arrives, loses, trusts, crashes, malformed, step}
+use Rattle.world.specs.Machine.{addressed, arrival}
+use Rattle.world.specs.Steps.{arrives, step}
 use Rattle.world.specs.Settle.{lowest, settle}
 use Rattle.world.specs.SettleLaws.{Alike, settle-related}
 use Rattle.world.specs.Words.{gives, settled-words, settle-reply}
 use Rattle.world.specs.History.{Run, Item, on-states, on-words, taken, act, run, Names, names, InForce, Fair, AllAlong}
-use Rattle.world.specs.Demand.{Listed}
 use Rattle.keeps.specs.Keeps.{settle-sound}
-use Rattle.effects.specs.Views.{Ground, ground, Still}
-use Rattle.effects.specs.Cascade.{cascade-still}
 use Rattle.effects.specs.Runs.{act-keeps, run-keeps}
-use Rattle.effects.specs.Holding.{arrival-ground}
+use Rattle.effects.specs.Holding.{step-lasting}
 use Rattle.carried.specs.Calls.{settle-carried, reply-carried}
 use Rattle.carried.specs.Carried.{written, act-carried, act-sound}
 use Rattle.demand.specs.States.{settled}
-
--- ---- a log as a list
-pub listed-in : {n m : ℕ} {log : ℕ → ℕ} {xs : List ℕ} → xs ≡ tabulate n log → Listed xs m → In n log m
-listed-in {n} {m} {log} {xs} e (in-at i l d) =
-    let k : i < n = omega (arith, ap length e, length-tabulate n log) in
-    in-at i k (sym (getD-tabulate n log i 0 k) ∙ ap (λ (l : List ℕ). getD l i 0) (sym e) ∙ d)
-
--- and the other way round
-pub in-listed : {n m : ℕ} {log : ℕ → ℕ} {xs : List ℕ} → xs ≡ tabulate n log → In n log m → Listed xs m
-in-listed {n} {m} {log} {xs} e (in-at i l d) =
-    in-at i (omega (arith, ap length e, length-tabulate n log))
-    (ap (λ (l : List ℕ). getD l i 0) e ∙ getD-tabulate n log i 0 l ∙ d)
 
 -- ---- the words of a sound state
 module _ (s : State) (h : Sound s) where
@@ -101,29 +83,14 @@ module _ (s : State) (h : Sound s) where
       (get-encode s (up p) (low p hp) ∙ u)
       (subst (λ (x : ℕ). bit x q ≡ true) (sym (get-encode s (trust p) (low p hp))) b)
 
--- ---- the number of processes never changes
-multicast-size : (s : State) (p groups : ℕ) → multicast s p groups size ≡ s size
-unfolding multicast posted numbered stamped raised put with-tables
-multicast-size s p groups = refl
-
--- by a step
-step-size : (s : State) (x : Step) → step s x size ≡ s size
-unfolding step trust-set leave crash put
-step-size s (multicasts p groups) = multicast-size s p groups
-step-size s (arrives k m q p) = ap (λ (g : Ground). g .size) (arrival-ground s k m q p)
-step-size s (loses k m q p) = refl
-step-size s (trusts p set) = ap (λ (v : Still). v .ground .size) (cascade-still (put s (trust p) set) p)
-step-size s (crashes p) = refl
-step-size s malformed = refl
-
--- by an item
+-- ---- the number of processes is changed by no item
 act-size : (r : Run State) (i : Item) → act on-states r i .now size ≡ r .now size
-act-size r i = act-keeps (λ t. t .now size ≡ r .now size) (λ t x _ e. step-size (t .now) x ∙ e) r i refl
+act-size r i = act-keeps (λ t. t .now size ≡ r .now size) (λ t x _ e. step-lasting (t .now) x .0 ∙ e) r i refl
 
--- by a list
+-- nor by a list
 pub run-size : (r : Run State) (items : List Item) → run on-states r items .now size ≡ r .now size
 run-size r items =
-    run-keeps (λ t. t .now size ≡ r .now size) (λ t x _ e. step-size (t .now) x ∙ e) r items refl
+    run-keeps (λ t. t .now size ≡ r .now size) (λ t x _ e. step-lasting (t .now) x .0 ∙ e) r items refl
 
 -- along a list, in which every state has n processes
 module _ (n : ℕ) (live live′ : ℕ → Bool) (e : (q : ℕ) → q < n → live q ≡ live′ q) where

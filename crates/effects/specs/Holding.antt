@@ -1,7 +1,7 @@
 -- What is held is to its holder, and a letter in flight to an addressee: soundness says so, and it stays so
--- while a letter arrives and in the cascade. And a loss is accepted only where an end is down. Assumes
--- nothing.
-use mathlib.Core.Path.{_≡_, refl, sym, ap, _∙_, subst}
+-- while a letter arrives and in the cascade. And a loss is accepted only where an end is down; who holds a
+-- message after a step; what no step changes. Assumes nothing.
+use mathlib.Core.Path.{_≡_, refl, sym, ap, _∙_, subst, subst₂}
 use mathlib.Core.Bool.{Bool, true, false, not, _&&_}
 use mathlib.Core.Logic.{_⊎_, inl, inr, _≢_}
 use Prim.Native.Nat.{ℕ, _<_}
@@ -12,14 +12,15 @@ use Rattle.base.specs.Tests.{clash, both, both-r}
 use Rattle.base.specs.Refusals.{needs-none}
 use Rattle.base.specs.Bits.{bit}
 use Rattle.world.specs.World.{size, count, group, trust, up, held, mask, State, put}
+use Rattle.world.specs.Layout.{put-other}
 use Rattle.world.specs.Sound.{Sound}
 use Rattle.world.specs.SoundLaws.{size-high, count-high, letter-facts, held-facts}
-use Rattle.world.specs.Machine.{addressed, received, arrival}
-use Rattle.world.specs.Steps.{loses, is-process, is-message, is-up, in-flight, refusal, accepted}
-use Rattle.world.specs.StepLaws.{InFlight}
+use Rattle.world.specs.Machine.{with-tables, addressed, raised, stamped, numbered, posted, multicast, cascade, leave, received, arrival, trust-set, crash}
+use Rattle.world.specs.Steps.{Step, multicasts, arrives, loses, trusts, crashes, malformed, is-process, is-message, is-up, in-flight, refusal, accepted, step}
+use Rattle.world.specs.StepLaws.{InFlight, accepted-arrival}
 use Rattle.effects.specs.Views.{Ground, ground, Still, still}
 use Rattle.effects.specs.Cascade.{cascade-still}
-use Rattle.effects.specs.Arrival.{received-ground, received-held}
+use Rattle.effects.specs.Arrival.{Held, received-ground, received-held}
 
 -- what p holds is to p
 abbrev pub HeldTo : State → ℕ → Type 0
@@ -85,3 +86,55 @@ pub arrival-ground : (s : State) (k m q p : ℕ) → ground (arrival s k m q p) 
 unfolding arrival
 arrival-ground s k m q p =
     ap (λ (v : Still). v .ground) (cascade-still (received s k m q p) p) ∙ received-ground s k m q p
+
+-- ---- who holds a message after a step
+-- a letter for m to r is in flight
+pub data Lands (s : State) (r m : ℕ) : Type 0 where
+  lands : (k q : ℕ) → InFlight s k m q r → Lands s r m
+
+-- whoever holds it after a step held it before, or a letter for it was in flight
+pub step-held : (s : State) (x : Step) → accepted s x ≡ true → (r m : ℕ) → Held (step s x) r m
+    → Held s r m ⊎ Lands s r m
+unfolding step multicast posted numbered stamped raised with-tables arrival trust-set leave crash put
+step-held s (multicasts p groups) e r m h = inl h
+step-held s (arrives k x q p) e r m h =
+    elim (received-held s k x q p r m
+    (sym (ap (λ (v : Still). v .held r m) (cascade-still (received s k x q p) p)) ∙ h)) [
+      | inl a ↦ inl a
+      | inr a ↦ inr (subst₂ (Lands s) (a .0) (a .1) (lands k q (accepted-arrival s k x q p e .letter)))
+    ]
+step-held s (loses k x q p) e r m h = inl h
+step-held s (trusts p set) e r m h =
+    inl (sym (ap (λ (v : Still). v .held r m) (cascade-still (put s (trust p) set) p)) ∙ h)
+step-held s (crashes p) e r m h = inl h
+step-held s malformed e r m h = inl h
+
+-- ---- what no step changes
+-- how many processes there are, their groups, and the masks of the messages that there are
+abbrev pub Lasting : State → State → Type 0
+Lasting s t =
+    (t size ≡ s size) × ((p : ℕ) → t (group p) ≡ s (group p))
+    × ((m : ℕ) → m < s count → t (mask m) ≡ s (mask m))
+
+-- where the ground is the same they are
+lasts : (s t : State) → ground t ≡ ground s → Lasting s t
+lasts s t e = (
+  ap (λ (v : Ground). v .size) e,
+  (λ p. ap (λ (v : Ground). v .group p) e),
+  λ m _. ap (λ (v : Ground). v .messages .mask m) e,
+)
+
+pub step-lasting : (s : State) (x : Step) → Lasting s (step s x)
+unfolding step multicast posted numbered stamped raised with-tables trust-set leave crash put
+step-lasting s (multicasts p groups) = (
+  refl,
+  (λ _. refl),
+  λ m l. put-other s (mask (s count)) (mask m) groups (λ e. let z : s count ≡ m = cc in omega arith),
+)
+step-lasting s (arrives k m q p) = lasts s (arrival s k m q p) (arrival-ground s k m q p)
+step-lasting s (loses k m q p) = (refl, (λ _. refl), λ _ _. refl)
+step-lasting s (trusts p set) =
+    let u : State = put s (trust p) set in
+    lasts u (cascade u p) (ap (λ (v : Still). v .ground) (cascade-still u p))
+step-lasting s (crashes p) = (refl, (λ _. refl), λ _ _. refl)
+step-lasting s malformed = (refl, (λ _. refl), λ _ _. refl)

@@ -2,7 +2,7 @@
 -- arrivals that it makes, each of which would be accepted. Assumes nothing.
 use mathlib.Core.Path.{_≡_, refl}
 use mathlib.Core.Bool.{Bool, true, false}
-use mathlib.Core.List.{List, [], _∷_}
+use mathlib.Core.List.{List, [], _∷_, _++_}
 use Rattle.base.specs.Tests.{pick}
 use Rattle.world.specs.World.{State}
 use Rattle.world.specs.Steps.{Step, arrives, read, accepted}
@@ -31,3 +31,10 @@ module _ (P : Run State → Type 0)
   unfolding run
   run-keeps r [] w = w
   run-keeps r (i ∷ items) w = run-keeps (act on-states r i) items (act-keeps r i w)
+
+-- a list, then another
+pub run-append : (r : Run State) (is js : List Item)
+    → run on-states r (is ++ js) ≡ run on-states (run on-states r is) js
+unfolding run
+run-append r [] js = refl
+run-append r (i ∷ is) js = run-append (act on-states r i) is js
