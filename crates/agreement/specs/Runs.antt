@@ -17,14 +17,13 @@ use Rattle.world.specs.World.{size, count, group, trust, up, causal-length, fif
 use Rattle.world.specs.Layout.{put-other}
 use Rattle.world.specs.SoundLaws.{size-high, held-facts}
 use Rattle.world.specs.Setup.{fresh, made}
-use Rattle.world.specs.Machine.{with-tables, cascade, raised, stamped, numbered, posted, multicast, leave, mark, received, arrival, trust-set, crash}
+use Rattle.world.specs.Machine.{with-tables, cascade, raised, stamped, numbered, posted, multicast, leave, received, arrival, trust-set, crash}
 use Rattle.world.specs.Steps.{Step, multicasts, arrives, loses, trusts, crashes, malformed, read, accepted, step}
 use Rattle.world.specs.StepLaws.{accepted-multicast, accepted-arrival, accepted-trust, lowest-moves, moves-taken}
 use Rattle.world.specs.Settle.{lowest}
 use Rattle.world.specs.SettleLaws.{settle-keeps}
 use Rattle.world.specs.History.{Event, Run, Item, given, settling, on-states, taken, tick, settles, act, run, InForce, AllAlong}
 use Rattle.world.specs.Local.{received-local}
-use Rattle.world.specs.Kept.{hold-cases}
 use Rattle.effects.specs.Views.{place-local, messages, Process, process, Ground, ground, Still, place}
 use Rattle.effects.specs.Cascade.{cascade-still}
 use Rattle.effects.specs.Arrival.{received-process, received-ground}
@@ -33,7 +32,7 @@ use Rattle.order.specs.Knowledge.{knowledge}
 use Rattle.order.specs.Counters.{OneMore}
 use Rattle.order.specs.Multicast.{one-more}
 use Rattle.order.specs.Runs.{with-history, Whole, cascade-begins, whole-step, whole-act}
-use Rattle.agreement.specs.Letters.{Mark, Net}
+use Rattle.agreement.specs.Letters.{Net}
 use Rattle.agreement.specs.Arrivals.{marked-on, received-net, lost-net, crashed-net, trusted-net, multicast-net}
 use Rattle.agreement.specs.Turns.{names-same, Covers, Vouched, vouched, TrustedAt, Trusted, Pending, delivered, not-in-turn, unmarked, IdleAt, Live, live-cascade}
 
@@ -52,13 +51,6 @@ module _ (s : State) (k m q p : ℕ) where
   aside-received r n =
       place-local s (received s k m q p) r (λ c o. received-local p r n c o s k m q) (received-ground s k m q p)
 
-  -- no mark is taken away
-  marks-on : (r x o : ℕ) → Mark s r x o → Mark (received s k m q p) r x o
-  unfolding put
-  marks-on r x o z =
-      hold-cases (λ t. Mark t r x o) (mark (leave s k m q p) k m q p) p m (λ _. marked-on s k m q p r x o z)
-      (λ _. marked-on s k m q p r x o z)
-
   -- what trust gives stays
   received-trusted : (live : ℕ → Bool) → Trusted live s → Trusted live (received s k m q p)
   received-trusted live tr r x o f ho lo a =
@@ -74,7 +66,7 @@ module _ (s : State) (k m q p : ℕ) where
           let g = received-ground s k m q p in
           vouched u (omega (arith, ap (λ (v : Ground). v .size) g)) lu
           (ap (λ (v : Ground). v .group u) g ∙ gu ∙ sym (ap (λ (v : Ground). v .group o) g))
-          (marks-on r x u mu)
+          (marked-on s k m q p r x u mu)
 
 -- ---- every accepted step
 module _ (live : ℕ → Bool) (s : State) (es : List Event) (w : Whole (with-history s es))

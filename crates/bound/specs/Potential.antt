@@ -110,6 +110,13 @@ if-sent s (suc (suc k)) m q x =
           (both-r (eqb (s (held q m)) 1) near x),
     )
 
+-- what is not sent passes the test of what is owed
+unsent : (s : State) (k m q : ℕ) → (¬ SentBy s k m q) → not (sent s k m q) ≡ true
+unsent s k m q n = elim (bool-cases (sent s k m q)) [
+  | inl x ↦ absurd (n (if-sent s k m q x))
+  | inr x ↦ ap not x
+]
+
 -- ---- a change that sends no letter twice raises no letter's part
 -- where it passes, and where it fails
 one-yes : {b : Bool} → b ≡ true → one b ≡ 1
@@ -142,15 +149,10 @@ module _ {s t : State} (o : Once s t) (e : ground t ≡ ground s) (h : Sound t) 
   owed-back : (k m q u : ℕ) → m < s count → owed t k m q u ≡ true → owed s k m q u ≡ true
   owed-back k m q u hm z =
       both-i (not (sent s k m q)) (both (addressed s m q) (addressed s m u))
-      (not-sent (bool-cases (sent s k m q)))
+      (unsent s k m q (λ x. clash (sent-if t k m q (spent-on o k m q (hm, x) .1))
+      (not-true (sent t k m q) (both-l (not (sent t k m q)) (both (addressed t m q) (addressed t m u)) z))))
       (sym (ap₂ both (to-same m q) (to-same m u))
       ∙ both-r (not (sent t k m q)) (both (addressed t m q) (addressed t m u)) z)
-    where
-      not-sent : (sent s k m q ≡ true) ⊎ (sent s k m q ≡ false) → not (sent s k m q) ≡ true
-      not-sent (inr x) = ap not x
-      not-sent (inl x) =
-          clash (sent-if t k m q (spent-on o k m q (hm, if-sent s k m q x) .1))
-          (not-true (sent t k m q) (both-l (not (sent t k m q)) (both (addressed t m q) (addressed t m u)) z))
 
   -- no letter's part is raised
   pub cost-lower : (k m q u : ℕ) → k < 3 → m < s count → q < s size → u < s size
@@ -173,15 +175,11 @@ module _ {s t : State} (o : Once s t) (e : ground t ≡ ground s) (h : Sound t) 
           let d = letter-facts t h (suc j) m q u l (omega (arith, count-high t h))
           (omega (arith, size-is, size-high t h)) (omega (arith, size-is, size-high t h)) f in
           both-i (not (sent s (suc j) m q)) (both (addressed s m q) (addressed s m u))
-          (unsent (bool-cases (sent s (suc j) m q)))
+          (unsent s (suc j) m q (λ x. n (hm, x)))
           (both-i (addressed s m q) (addressed s m u)
           (sym (to-same m q)
           ∙ both-r (ltb q (t size)) (addressed t m q) (sym (sends-later t m j q) ∙ d .from))
           (sym (to-same m u) ∙ both-r (ltb u (t size)) (addressed t m u) (d .to)))
-        where
-          unsent : (sent s (suc j) m q ≡ true) ⊎ (sent s (suc j) m q ≡ false) → not (sent s (suc j) m q) ≡ true
-          unsent (inl x) = absurd (n (hm, if-sent s (suc j) m q x))
-          unsent (inr x) = ap not x
 
 -- ---- so the potential falls, where one letter's part does
 pub potential-falls : (s t : State) → t count ≡ s count → t size ≡ s size

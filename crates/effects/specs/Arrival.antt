@@ -1,10 +1,10 @@
 -- The parts of an arrival before its cascade, and of the other steps: what they leave as it was. A letter
 -- leaves, a mark is set, a message is held and answered: none of these touches a process's record, the
 -- messages, or who is up and trusted. Assumes nothing.
-use mathlib.Core.Path.{_≡_, refl, sym, _∙_, subst}
+use mathlib.Core.Path.{_≡_, refl, sym, _∙_, subst, subst₂}
 use mathlib.Core.Bool.{true}
 use Prim.Native.Nat.{ℕ}
-use mathlib.Core.Logic.{_⊎_, inl, inr}
+use mathlib.Core.Logic.{_≢_}
 use native.Mathlib.Decide.{ℕ-discrete}
 use Rattle.base.specs.Bits.{bit, without, without-old, without-other}
 use Rattle.world.specs.World.{Cell, held, flight, State, put}
@@ -30,20 +30,23 @@ module _ (s : State) (k m q p : ℕ) where
       (λ v. bit v u ≡ true → Fly s x j o u)
       (λ e z. subst (λ (c : Cell). bit (s c) u ≡ true) e (without-old (s (flight m k q)) p u z)) (λ _ z. z)
 
-  -- it is that letter, or it still flies
-  pub leave-flown : (x j o u : ℕ) → Fly s x j o u
-      → ((m ≡ x) × (k ≡ j) × (q ≡ o) × (p ≡ u)) ⊎ Fly (leave s k m q p) x j o u
+  -- a letter that flew is that one, or it still flies
+  pub leave-cases : (P : ℕ → ℕ → ℕ → ℕ → Type 0) → P m k q p
+      → ((x j o u : ℕ) → Fly (leave s k m q p) x j o u → P x j o u)
+      → (x j o u : ℕ) → Fly s x j o u → P x j o u
   unfolding leave
-  leave-flown x j o u z =
-      put-at s (flight m k q) (flight x j o) (without (s (flight m k q)) p)
-      (λ v. ((m ≡ x) × (k ≡ j) × (q ≡ o) × (p ≡ u)) ⊎ (bit v u ≡ true))
-      (λ e. go e (ℕ-discrete p u)) (λ _. inr z)
+  leave-cases P it other x j o u z = go (other x j o u) (ℕ-discrete p u)
     where
-      go : flight m k q ≡ flight x j o → Dec (p ≡ u)
-          → ((m ≡ x) × (k ≡ j) × (q ≡ o) × (p ≡ u)) ⊎ (bit (without (s (flight m k q)) p) u ≡ true)
-      go e (yes d) = inl (cc, cc, cc, d)
-      go e (no d) =
-          inr (without-other (s (flight m k q)) p u d ∙ subst (λ (c : Cell). bit (s c) u ≡ true) (sym e) z)
+      go : (Fly (leave s k m q p) x j o u → P x j o u) → Dec (p ≡ u) → P x j o u
+      go rest (yes d) =
+          put-at s (flight m k q) (flight x j o) (without (s (flight m k q)) p)
+          (λ v. (bit v u ≡ true → P x j o u) → P x j o u)
+          (λ e _. subst₂ (λ (y v : ℕ). P y j o v) (cc) d (subst₂ (λ (i r : ℕ). P m i r p) (cc) (cc) it))
+          (λ _ f. f z) rest
+      go rest (no d) = rest
+          (put-at s (flight m k q) (flight x j o) (without (s (flight m k q)) p) (λ v. bit v u ≡ true)
+          (λ e. without-other (s (flight m k q)) p u d ∙ subst (λ (c : Cell). bit (s c) u ≡ true) (sym e) z)
+          (λ _. z))
 
 -- ---- what an arrival before its cascade leaves
 module _ (s : State) (k m q p : ℕ) where
@@ -80,12 +83,13 @@ module _ (s : State) (k m q p : ℕ) where
   unfolding put
   received-ground = received-keeps s k m q p ground (λ _ _ _ _. refl) (λ _ _. refl) (λ _ _. refl)
 
-  -- what is held then was held before, or it is m at p
-  pub received-held : (r x : ℕ) → Held (received s k m q p) r x → Held s r x ⊎ ((p ≡ r) × (m ≡ x))
+  -- what is held then was held before, or it is m at p, and new
+  pub received-held : (P : ℕ → ℕ → Type 0) → ((r x : ℕ) → Held s r x → P r x) → (s (held p m) ≢ 1 → P p m)
+      → (r x : ℕ) → Held (received s k m q p) r x → P r x
   unfolding put
-  received-held r x =
-      hold-cases (λ t. Held t r x → Held s r x ⊎ ((p ≡ r) × (m ≡ x))) (mark (leave s k m q p) k m q p) p m
-      (λ _ d. inl (sym (marked-held r x) ∙ d))
-      (λ _. put-at (mark (leave s k m q p) k m q p) (held p m) (held r x) _
-      (λ v. v ≡ 1 → Held s r x ⊎ ((p ≡ r) × (m ≡ x))) (λ e _. inr (cc, cc))
-      (λ _ d. inl (sym (marked-held r x) ∙ d)))
+  received-held P old new r x =
+      hold-cases (λ t. Held t r x → P r x) (mark (leave s k m q p) k m q p) p m
+      (λ _ d. old r x (sym (marked-held r x) ∙ d))
+      (λ n. put-at (mark (leave s k m q p) k m q p) (held p m) (held r x) _ (λ v. v ≡ 1 → P r x)
+      (λ e _. subst₂ P (cc) (cc) (new (λ d. n (marked-held p m ∙ d))))
+      (λ _ d. old r x (sym (marked-held r x) ∙ d)))

@@ -1,7 +1,7 @@
 -- What is held is to its holder, and a letter in flight to an addressee: soundness says so, and it stays so
 -- while a letter arrives and in the cascade. And a loss is accepted only where an end is down; who holds a
 -- message after a step; what no step changes. Assumes nothing.
-use mathlib.Core.Path.{_≡_, refl, sym, ap, _∙_, subst, subst₂}
+use mathlib.Core.Path.{_≡_, refl, sym, ap, _∙_}
 use mathlib.Core.Bool.{Bool, true, false, not, _&&_}
 use mathlib.Core.Logic.{_⊎_, inl, inr, _≢_}
 use Prim.Native.Nat.{ℕ, _<_}
@@ -51,14 +51,10 @@ sound-letter s h k m q p l =
 -- what p holds when a letter has arrived is to p
 pub received-to : (s : State) → Sound s → (k m q p : ℕ) → InFlight s k m q p → HeldTo (received s k m q p) p
 received-to s h k m q p l x hx d =
-    to-same ∙ elim (received-held s k m q p p x d) [
-      | inl a ↦ sound-held s h p (l .to) x
-          (omega (arith, ap (λ (v : Ground). v .messages .total) (received-ground s k m q p))) a
-      | inr a ↦ subst (λ (y : ℕ). addressed s y p ≡ true) (a .1) (sound-letter s h k m q p l)
-    ]
-  where
-    to-same : addressed (received s k m q p) x p ≡ addressed s x p
-    to-same = ap (λ (v : Ground). bit (v .messages .mask x) (v .group p)) (received-ground s k m q p)
+    ap (λ (v : Ground). bit (v .messages .mask x) (v .group p)) (received-ground s k m q p)
+    ∙ received-held s k m q p (λ r y. r < s size → y < s count → addressed s y r ≡ true)
+    (λ r y a hr hy. sound-held s h r hr y hy a) (λ _ _ _. sound-letter s h k m q p l) p x d (l .to)
+    (omega (arith, ap (λ (v : Ground). v .messages .total) (received-ground s k m q p)))
 
 -- a trust set is replaced
 pub trusted-held : (s : State) → Sound s → (p set : ℕ) → p < s size → HeldTo (put s (trust p) set) p
@@ -98,11 +94,9 @@ pub step-held : (s : State) (x : Step) → accepted s x ≡ true → (r m : ℕ)
 unfolding step multicast posted numbered stamped raised with-tables arrival trust-set leave crash put
 step-held s (multicasts p groups) e r m h = inl h
 step-held s (arrives k x q p) e r m h =
-    elim (received-held s k x q p r m
-    (sym (ap (λ (v : Still). v .held r m) (cascade-still (received s k x q p) p)) ∙ h)) [
-      | inl a ↦ inl a
-      | inr a ↦ inr (subst₂ (Lands s) (a .0) (a .1) (lands k q (accepted-arrival s k x q p e .letter)))
-    ]
+    received-held s k x q p (λ u y. Held s u y ⊎ Lands s u y) (λ _ _ a. inl a)
+    (λ _. inr (lands k q (accepted-arrival s k x q p e .letter))) r m
+    (sym (ap (λ (v : Still). v .held r m) (cascade-still (received s k x q p) p)) ∙ h)
 step-held s (loses k x q p) e r m h = inl h
 step-held s (trusts p set) e r m h =
     inl (sym (ap (λ (v : Still). v .held r m) (cascade-still (put s (trust p) set) p)) ∙ h)
