@@ -22,7 +22,7 @@ use Rattle.world.specs.Steps.{is-up}
 use Rattle.world.specs.History.{Run, Fair}
 use Rattle.effects.specs.Views.{Messages, messages, place}
 use Rattle.order.specs.Knowledge.{Knowledge, knowledge}
-use Rattle.order.specs.Counters.{To, of-to, of, to, Counting, sender-before, stamp-lt}
+use Rattle.order.specs.Counters.{To, of-to, of, to, both-less, Counting, sender-before, stamp-lt}
 use Rattle.order.specs.Runs.{Whole}
 use Rattle.order.specs.Cascade.{Fifo}
 use Rattle.effects.specs.Cascade.{Near}
@@ -54,22 +54,14 @@ number-is {n} {w} {k} c m g h t =
     let cut = tally-below (w .total) (suc m) f h (λ i a b. above i a (bool-cases (k .before m i))) in
     let top : f m ≡ true = both-i (k .before m m) (of-to w q g m) (c .closed .before-self m h)
     (both-i (eqb q q) (bit (w .mask m) g) (eqb-refl q) t) in
-    let low = tally-cong m f (of-to w q g) (λ x l. mine x l (of-to w q g x) refl) in
+    let low = tally-cong m f (of-to w q g) (λ x l. both-less (k .before m x) (of-to w q g x)
+    (λ e. sender-before c m x h (omega arith) (of w q g x e))) in
     c .numbers m g h ∙ c .stamps m g q h ∙ cut ∙ pick-yes (suc (tally m f)) (tally m f) top ∙ ap suc low
   where
     above : (i : ℕ) → suc m ≤ i → (k .before m i ≡ true) ⊎ (k .before m i ≡ false)
         → both (k .before m i) (of-to w (w .sender m) g i) ≡ false
     above i a (inl e) = absurd (omega (arith, c .closed .before m .low i e))
     above i a (inr e) = rw e
-
-    mine : (x : ℕ) → x < m → (b : Bool) → of-to w (w .sender m) g x ≡ b → both (k .before m x) b ≡ b
-    mine x l true e =
-        both-i (k .before m x) true (sender-before c m x h (omega arith) (of w (w .sender m) g x e)) refl
-    mine x l false e = go (k .before m x)
-      where
-        go : (b : Bool) → both b false ≡ false
-        go true = refl
-        go false = refl
 
 -- if the number of each that passes is below c, so is the count of them
 count-up : (f : ℕ → Bool) (c m : ℕ) → 1 ≤ c → ((y : ℕ) → y < m → f y ≡ true → suc (tally y f) < c)
