@@ -26,7 +26,7 @@ use Rattle.world.specs.History.{Event, Run, Item, given, settling, on-states, t
 use Rattle.world.specs.Local.{received-local}
 use Rattle.effects.specs.Views.{place-local, messages, Process, process, Ground, ground, Still, place}
 use Rattle.effects.specs.Cascade.{cascade-still}
-use Rattle.effects.specs.Arrival.{received-process, received-ground}
+use Rattle.effects.specs.Arrival.{received-scene, received-process, received-ground}
 use Rattle.effects.specs.Holding.{loss-needs, arrival-ground, received-to, trusted-held}
 use Rattle.order.specs.Knowledge.{knowledge}
 use Rattle.order.specs.Counters.{OneMore}
@@ -108,8 +108,7 @@ module _ (live : ℕ → Bool) (s : State) (es : List Event) (w : Whole (with-hi
       let l = accepted-arrival s k m q p e .letter in
       let g = received-ground s k m q p in
       live-cascade live p (s (causal-length p)) es (received s k m q p) (received-to s (w .sound) k m q p l)
-      (cascade-begins s (received s k m q p) es (ap (λ (v : Ground). v .messages) g)
-      (ap (λ (v : Ground). v .size) g) (received-process s k m q p) p (w .meaning) (w .quiet))
+      (cascade-begins s (received s k m q p) es (received-scene s k m q p) p (w .meaning) (w .quiet))
       (λ x hx lx. names-same live s (received s k m q p) p x g
       (c x (omega (arith, ap (λ (v : Ground). v .size) g)) lx))
       (received-net s k m q p l (w .sound) (w .meaning .each p .fifo-log)
@@ -123,7 +122,7 @@ module _ (live : ℕ → Bool) (s : State) (es : List Event) (w : Whole (with-hi
   unfolding trust-set put
   trust-live p set hp c =
       live-cascade live p (s (causal-length p)) es (put s (trust p) set) (trusted-held s (w .sound) p set hp)
-      (cascade-begins s (put s (trust p) set) es refl refl (λ r. refl) p (w .meaning) (w .quiet)) c
+      (cascade-begins s (put s (trust p) set) es refl p (w .meaning) (w .quiet)) c
       (trusted-net s p set (v .net))
       (v .trusted) (λ r hr n. subst IdleAt (sym (aside r n)) (v .idle r hr))
     where

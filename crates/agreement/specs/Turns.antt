@@ -300,7 +300,7 @@ live-cascade live p a es b h c cov n tr idle =
     loop-keeps (λ u. u count) (λ u. ready u p) (λ u. fifo-one u p) (Turning live p a es b)
     (λ u m hm e _ k.
     let y = ready-facts u p m e in
-    let o = k .cascading .meaning in
+    let o = k .cascading .order .meaning in
     record {
       cascading = cascading-more p a es b u h m hm y (k .cascading);
       net = turn-net u p m y _ o (k .net);
@@ -308,7 +308,7 @@ live-cascade live p a es b h c cov n tr idle =
           turn-trusted live u p m y _ o
           (covers-same live b u p (ap (λ (v : Still). v .ground) (k .cascading .same)) cov) (k .trusted);
     }) (b count - b (fifo-length p)) b (record { cascading = c; net = n; trusted = tr }) in
-    let log = c .meaning .each p .fifo-log in
+    let log = c .order .meaning .each p .fifo-log in
     record {
       net = end .net;
       idle = λ r hr. at-or-off p (λ x. x < cascade b p size → Idle (cascade b p) x)

@@ -1,7 +1,7 @@
 -- The parts of an arrival before its cascade, and of the other steps: what they leave as it was. A letter
 -- leaves, a mark is set, a message is held and answered: none of these touches a process's record, the
 -- messages, or who is up and trusted. Assumes nothing.
-use mathlib.Core.Path.{_≡_, refl, sym, _∙_, subst, subst₂}
+use mathlib.Core.Path.{_≡_, refl, sym, ap, _∙_, subst, subst₂}
 use mathlib.Core.Bool.{true}
 use Prim.Native.Nat.{ℕ}
 use mathlib.Core.Logic.{_≢_}
@@ -11,7 +11,7 @@ use Rattle.world.specs.World.{Cell, held, flight, State, put}
 use Rattle.world.specs.Layout.{put-at}
 use Rattle.world.specs.Kept.{mark-cases, hold-cases, marked-keeps, received-keeps}
 use Rattle.world.specs.Machine.{leave, mark, received}
-use Rattle.effects.specs.Views.{process, ground}
+use Rattle.effects.specs.Views.{process, Scene, scene, ground}
 
 -- ---- r holds m; the letter of kind k for m from q to u flies
 abbrev pub Held : State → ℕ → ℕ → Type 0
@@ -73,10 +73,14 @@ module _ (s : State) (k m q p : ℕ) where
   unfolding put
   mark-ground = marked-keeps s k m q p ground (λ _ _ _ _. refl) (λ _ _. refl)
 
-  -- an arrival before its cascade leaves every process's record
-  pub received-process : (r : ℕ) → process (received s k m q p) r ≡ process s r
+  -- an arrival before its cascade leaves what the order of the logs looks at
+  pub received-scene : scene (received s k m q p) ≡ scene s
   unfolding put
-  received-process r = received-keeps s k m q p (λ t. process t r) (λ _ _ _ _. refl) (λ _ _. refl) (λ _ _. refl)
+  received-scene = received-keeps s k m q p scene (λ _ _ _ _. refl) (λ _ _. refl) (λ _ _. refl)
+
+  -- so every process's record
+  pub received-process : (r : ℕ) → process (received s k m q p) r ≡ process s r
+  received-process r = ap (λ (v : Scene). v .own r) received-scene
 
   -- and the ground
   pub received-ground : ground (received s k m q p) ≡ ground s

@@ -18,7 +18,7 @@ use Rattle.world.specs.Machine.{with-tables, addressees, merge, causal-one, cau
 use Rattle.keeps.specs.Next.{next-before}
 use Rattle.world.specs.Kept.{causal-all-keeps, oks-keep, cascade-keeps}
 use Rattle.world.specs.Local.{other-away, causal-one-away, appended-away, raised-next-away, fifo-one-away}
-use Rattle.effects.specs.Views.{process-local, Messages, messages, Process, process, Ground, ground, Still, still, letters}
+use Rattle.effects.specs.Views.{process-local, Messages, messages, Process, process, Scene, scene, Ground, ground, Still, still, letters}
 
 -- ---- what no part writes
 -- all causal deliveries at p
@@ -32,9 +32,9 @@ unfolding put
 oks-still s p q k = oks-keep still p (λ t m v. refl) s q k
 
 -- and change no process's record
-oks-process : (s : State) (p q k r : ℕ) → process (send-oks s p q k) r ≡ process s r
+oks-scene : (s : State) (p q k : ℕ) → scene (send-oks s p q k) ≡ scene s
 unfolding put
-oks-process s p q k r = oks-keep (λ t. process t r) p (λ t m v. refl) s q k
+oks-scene s p q k = oks-keep scene p (λ t m v. refl) s q k
 
 -- ---- deliveries on views
 -- f with v at i
@@ -177,10 +177,9 @@ fifo-one-is s p m =
     (sym (next-before (appended s p m) p (s (sender m))))
 
 -- the OKs change no record
-pub fifo-one-process : (s : State) (p m r : ℕ) → process (fifo-one s p m) r ≡ process (fifo-middle s p m) r
-fifo-one-process s p m r =
-    ap (λ (t : State). process t r) (fifo-one-is s p m)
-    ∙ oks-process (fifo-middle s p m) p (s (sender m)) (fifo-middle s p m count) r
+pub fifo-one-scene : (s : State) (p m : ℕ) → scene (fifo-one s p m) ≡ scene (fifo-middle s p m)
+fifo-one-scene s p m =
+    ap scene (fifo-one-is s p m) ∙ oks-scene (fifo-middle s p m) p (s (sender m)) (fifo-middle s p m count)
 
 -- a turn at p leaves every other record
 pub fifo-one-there : (s : State) (p m r : ℕ) → p ≢ r → process (fifo-one s p m) r ≡ process s r
@@ -235,8 +234,8 @@ oks-letters s p q (suc n) x k r = go (due (send-oks s p q n) p q n) refl (oks-le
   where
     due-is : due s p q n ≡ due (send-oks s p q n) p q n
     due-is =
-        sym (ap₂ (λ (v : Still) (r : Process). due-by v (r .next) p q n) (oks-still s p q n)
-        (oks-process s p q n p))
+        sym (ap₂ (λ (v : Still) (w : Scene). due-by v (w .own p .next) p q n) (oks-still s p q n)
+        (oks-scene s p q n))
 
     go : (b : Bool) → due (send-oks s p q n) p q n ≡ b
         → Sent s p q n x k r (send-oks s p q n (flight x k r))
@@ -269,7 +268,7 @@ fifo-middle-front t p m = causal-all-front (fifo-started t p m) p ∙ ap front-o
 
 -- and after it
 pub fifo-one-front : (t : State) (p m : ℕ) → front (fifo-one t p m) p ≡ turned t p m
-fifo-one-front t p m = ap front-of (fifo-one-process t p m p) ∙ fifo-middle-front t p m
+fifo-one-front t p m = ap (λ (v : Scene). front-of (v .own p)) (fifo-one-scene t p m) ∙ fifo-middle-front t p m
 
 -- next of m's sender at p has risen
 pub raised : (t : State) (p m : ℕ) → fifo-one t p m (next p (t (sender m))) ≡ t (next p (t (sender m))) + 1

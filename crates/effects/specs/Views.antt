@@ -51,6 +51,16 @@ process s p = record {
   sequence = λ g. s (sequence p g);
 }
 
+-- ---- what the order of the logs looks at: how many processes, the messages, each process's record
+pub record Scene : Type 0 where
+  pub size : ℕ
+  pub messages : Messages
+  pub own : ℕ → Process
+
+-- of a state
+abbrev pub scene : State → Scene
+scene s = record { size = s size; messages = messages s; own = process s }
+
 -- ---- the letters in flight: of message m, kind k and origin q, the receivers
 abbrev pub letters : State → ℕ → ℕ → ℕ → ℕ
 letters s m k q = s (flight m k q)

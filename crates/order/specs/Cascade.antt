@@ -1,7 +1,7 @@
 -- What the counters and logs of a state mean, given its history (Meaning), and that the cascade keeps it:
 -- each causal delivery, each FIFO delivery with next raised, the OKs, and so the two loops. At the end
 -- nothing is left to deliver causally, since the fuel suffices (Fuel of world). Assumes nothing.
-use mathlib.Core.Path.{_≡_, refl, sym, ap, ap₂, _∙_, subst}
+use mathlib.Core.Path.{_≡_, refl, sym, ap, ap₂, _∙_, subst, subst₂}
 use mathlib.Core.Bool.{Bool, true, false, _&&_}
 use mathlib.Core.List.{List, _∷_}
 use mathlib.Core.Logic.{inl, inr, _≢_}
@@ -19,8 +19,8 @@ use Rattle.world.specs.History.{Event, got, deliveries, grown}
 use Rattle.world.specs.Fuel.{causal-ends}
 use Rattle.effects.specs.Holding.{HeldTo, held-to}
 use Rattle.effects.specs.Events.{deliveries-same}
-use Rattle.effects.specs.Views.{Messages, messages, Process, process, Ground, ground, Still, still}
-use Rattle.effects.specs.Cascade.{fifo-delivered, causal-delivered, fifo-started, fifo-started-here, fifo-started-there, causal-one-here, causal-one-there, fifo-middle, fifo-middle-still, fifo-one-process, fifo-one-still, fifo-one-there}
+use Rattle.effects.specs.Views.{Messages, messages, Process, process, Scene, scene, Still, still}
+use Rattle.effects.specs.Cascade.{fifo-delivered, causal-delivered, fifo-started, fifo-started-here, fifo-started-there, causal-one-here, causal-one-there, fifo-middle, fifo-middle-still, fifo-one-scene, fifo-one-still, fifo-one-there}
 use Rattle.order.specs.Knowledge.{Knowledge, learn, knowledge}
 use Rattle.order.specs.Counters.{counted, all-of, Counting, counting-got, counter-here, counter-there}
 use Rattle.order.specs.Logs.{at-here, at-else, FifoLogOf, fifo-log-more, CausalLog, causal-log-fifo, causal-log-more, Waits, waits, Stuck, Quiet}
@@ -48,30 +48,18 @@ pub record Meaning (n : ℕ) (w : Messages) (ps : ℕ → Process) (k : Knowledg
   pub each : (p : ℕ) → Means w k p (ps p)
 
 -- the meaning of a state's cells, given the events
+abbrev pub MeaningIn : List Event → Scene → Type 0
+MeaningIn es v = Meaning (v .size) (v .messages) (v .own) (knowledge es)
+
 abbrev pub MeaningOf : State → List Event → Type 0
-MeaningOf s es = Meaning (s size) (messages s) (process s) (knowledge es)
+MeaningOf s es = MeaningIn es (scene s)
 
 -- nothing is left to deliver causally, at any process
+abbrev pub QuietIn : Scene → Type 0
+QuietIn v = (p : ℕ) → Quiet (v .size) (v .messages) (v .own p)
+
 abbrev pub QuietOf : State → Type 0
-QuietOf s = (p : ℕ) → Quiet (s size) (messages s) (process s p)
-
--- states with the same views
-module _ (s t : State) (e : messages t ≡ messages s) (z : t size ≡ s size)
-    (f : (r : ℕ) → process t r ≡ process s r) where
-  pub meaning-same : (es : List Event) → MeaningOf s es → MeaningOf t es
-  meaning-same es o =
-      subst (λ (n : ℕ). Meaning n (messages t) (process t) (knowledge es)) (sym z)
-      (subst (λ (w : Messages). Meaning (s size) w (process t) (knowledge es)) (sym e) (record {
-        counting = o .counting;
-        each = λ p. subst (Means (messages s) (knowledge es) p) (sym (f p)) (o .each p);
-      }))
-
-  -- nothing is left to deliver in them either
-  pub quiet-same : QuietOf s → QuietOf t
-  quiet-same q p =
-      subst (λ (n : ℕ). Quiet n (messages t) (process t p)) (sym z)
-      (subst (λ (w : Messages). Quiet (s size) w (process t p)) (sym e)
-      (subst (Quiet (s size) (messages s)) (sym (f p)) (q p)))
+QuietOf s = QuietIn (scene s)
 
 -- ---- the tests, as facts
 -- "for all q other than the sender, the message's C[group of p][q] is at most del[q]"
@@ -205,7 +193,7 @@ meaning-fifo s es p m y hm tm o = record {
 
 -- ---- the events of a step, read off the causal log
 -- those of the log of p from place a on, given the process's record
-abbrev events : ℕ → ℕ → Process → List Event → List Event
+abbrev pub events : ℕ → ℕ → Process → List Event → List Event
 events p a r es = deliveries p a (r .causal-length - a) (r .causal) es
 
 -- one causal delivery adds its event
@@ -250,11 +238,15 @@ delivering-all p a es s =
     }) (s (fifo-length p) - s (causal-length p)) s
 
 -- ---- a turn of the cascade
--- the cascade at p between two turns: it began in b, of a step that began with p's causal log ending at a
+-- between two turns of a step that began with p's causal log ending at a
+pub record Ordered (p a : ℕ) (es : List Event) (v : Scene) : Type 0 where
+  pub meaning : MeaningIn (events p a (v .own p) es) v
+  pub quiet : QuietIn v
+  pub start : a ≤ v .own p .causal-length
+
+-- the cascade at p, which began in b
 pub record Cascading (p a : ℕ) (es : List Event) (b t : State) : Type 0 where
-  pub meaning : MeaningOf t (grown p a t es)
-  pub quiet : QuietOf t
-  pub start : a ≤ t (causal-length p)
+  pub order : Ordered p a es (scene t)
   pub same : still t ≡ still b
   pub there : (r : ℕ) → p ≢ r → process t r ≡ process b r
 
@@ -266,33 +258,13 @@ module _ (p a : ℕ) (es : List Event) (b t : State) (h : HeldTo b p) (m : ℕ) 
   unfolding raised-next appended put
   begun = record {
     meaning =
-        meaning-fifo t (grown p a t es) p m y hm (held-to p b t (o .same) h m hm (y .has)) (o .meaning);
-    start = o .start;
+        meaning-fifo t (grown p a t es) p m y hm (held-to p b t (o .same) h m hm (y .has)) (o .order .meaning);
+    start = o .order .start;
   }
 
   -- and when they have ended
   middle : Delivering p a es (fifo-middle t p m)
   middle = delivering-all p a es (fifo-started t p m) begun
-
-  -- the middle leaves the ground
-  middle-ground : ground (fifo-middle t p m) ≡ ground t
-  middle-ground = ap (λ (v : Still). v .ground) (fifo-middle-still t p m)
-
-  -- so do the OKs
-  one-ground : ground (fifo-one t p m) ≡ ground (fifo-middle t p m)
-  one-ground = ap (λ (v : Still). v .ground) (fifo-one-still t p m) ∙ sym middle-ground
-
-  -- the messages are the same
-  one-messages : messages (fifo-one t p m) ≡ messages (fifo-middle t p m)
-  one-messages = ap (λ (v : Ground). v .messages) one-ground
-
-  -- and the processes
-  one-size : fifo-one t p m size ≡ fifo-middle t p m size
-  one-size = ap (λ (v : Ground). v .size) one-ground
-
-  -- its causal log grew by the same events, before the OKs and after
-  same-events : grown p a (fifo-one t p m) es ≡ grown p a (fifo-middle t p m) es
-  same-events = ap (λ (r : Process). events p a r es) (fifo-one-process t p m p)
 
   -- at p nothing is left to deliver
   quiet-here : Quiet (fifo-middle t p m size) (messages (fifo-middle t p m)) (process (fifo-middle t p m) p)
@@ -306,22 +278,16 @@ module _ (p a : ℕ) (es : List Event) (b t : State) (h : HeldTo b p) (m : ℕ) 
       at-or-off p
       (λ x. Quiet (fifo-middle t p m size) (messages (fifo-middle t p m)) (process (fifo-middle t p m) x))
       quiet-here
-      (λ x n. subst (λ (v : Ground). Quiet (v .size) (v .messages) (process (fifo-middle t p m) x))
-      (sym middle-ground)
-      (subst (Quiet (t size) (messages t)) (sym (sym (fifo-one-process t p m x) ∙ fifo-one-there t p m x n))
-      (o .quiet x))) r
+      (λ x n. subst₂ (λ (v : Still) (r : Process). Quiet (v .ground .size) (v .ground .messages) r)
+      (sym (fifo-middle-still t p m))
+      (sym (fifo-one-there t p m x n) ∙ ap (λ (v : Scene). v .own x) (fifo-one-scene t p m))
+      (o .order .quiet x)) r
 
   -- so a turn keeps it
   pub cascading-more : Cascading p a es b (fifo-one t p m)
   cascading-more = record {
-    meaning = subst (MeaningOf (fifo-one t p m)) (sym same-events)
-        (meaning-same (fifo-middle t p m) (fifo-one t p m) one-messages one-size (fifo-one-process t p m)
-        (grown p a (fifo-middle t p m) es) (middle .meaning));
-    quiet =
-        quiet-same (fifo-middle t p m) (fifo-one t p m) one-messages one-size (fifo-one-process t p m)
-        quiet-middle;
-    start =
-        omega (arith, ap (λ (r : Process). r .causal-length) (fifo-one-process t p m p), middle .start);
+    order = subst (Ordered p a es) (sym (fifo-one-scene t p m))
+        (record { meaning = middle .meaning; quiet = quiet-middle; start = middle .start });
     same = fifo-one-still t p m ∙ o .same;
     there = λ r n. fifo-one-there t p m r n ∙ o .there r n;
   }

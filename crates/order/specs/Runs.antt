@@ -20,9 +20,9 @@ use Rattle.world.specs.Steps.{Step, multicasts, arrives, loses, trusts, crashes
 use Rattle.world.specs.StepLaws.{accepted-multicast, accepted-arrival, accepted-trust}
 use Rattle.world.specs.History.{Event, sent, At, gained, on-states, Run, Item, taken, act, run, started}
 use Rattle.keeps.specs.Keeps.{fresh-sound, step-sound}
-use Rattle.effects.specs.Views.{Messages, messages, Process, ground, Ground, Still}
+use Rattle.effects.specs.Views.{Messages, messages, Process, Scene, scene, Still}
 use Rattle.effects.specs.Views.{process as own}
-use Rattle.effects.specs.Arrival.{received-process, received-ground}
+use Rattle.effects.specs.Arrival.{received-scene}
 use Rattle.effects.specs.Events.{gained-keeps, grown-none, gained-none, gained-one}
 use Rattle.effects.specs.Runs.{act-keeps, run-keeps}
 use Rattle.effects.specs.Holding.{HeldTo, received-to, trusted-held}
@@ -30,7 +30,7 @@ use Rattle.order.specs.Knowledge.{knowledge, closed-fresh}
 use Rattle.order.specs.Precedence.{Formed, Newest, at-cases, no-event, old-cast, cast-low}
 use Rattle.order.specs.Counters.{OneMore}
 use Rattle.order.specs.Multicast.{one-more, meaning-multicast, quiet-multicast, multicast-logs, multicast-count}
-use Rattle.order.specs.Cascade.{MeaningOf, QuietOf, meaning-same, quiet-same, Cascading, cascading-all}
+use Rattle.order.specs.Cascade.{MeaningIn, MeaningOf, QuietIn, QuietOf, Ordered, Cascading, cascading-all}
 
 -- ---- the invariant of a run
 -- a state and its history
@@ -115,15 +115,19 @@ whole-after s t es e d o q w = record {
 }
 
 -- a step at p up to its cascade, or a step without one: t is the state then
-module _ (s t : State) (es : List Event) (e : messages t ≡ messages s) (z : t size ≡ s size)
-    (f : (r : ℕ) → own t r ≡ own s r) where
+module _ (s t : State) (es : List Event) (e : scene t ≡ scene s) where
+  -- no log has grown
+  as-long : (r : ℕ) → t (causal-length r) ≡ s (causal-length r)
+  as-long r = ap (λ (v : Scene). v .own r .causal-length) e
+
   -- the cascade begins
   pub cascade-begins : (p : ℕ) → MeaningOf s es → QuietOf s → Cascading p (s (causal-length p)) es t t
   cascade-begins p o q = record {
-    meaning = subst (MeaningOf t) (sym (grown-none p s t es (ap (λ (r : Process). r .causal-length) (f p))))
-        (meaning-same s t e z f es o);
-    quiet = quiet-same s t e z f q;
-    start = omega (arith, ap (λ (r : Process). r .causal-length) (f p));
+    order = subst (Ordered p (s (causal-length p)) es) (sym e) (record {
+      meaning = subst (MeaningOf s) (sym (grown-none p s s es refl)) o;
+      quiet = q;
+      start = omega arith;
+    });
     same = refl;
     there = λ r n. refl;
   }
@@ -134,16 +138,18 @@ module _ (s t : State) (es : List Event) (e : messages t ≡ messages s) (z : t 
   whole-cascade p hp h d w =
       let c = cascading-all p (s (causal-length p)) es t h (cascade-begins p (w .meaning) (w .quiet)) in
       let only = gained-one (s size) p s (cascade t p) es hp
-      (λ r n. ap (λ (x : Process). x .causal-length) (c .there r n ∙ f r)) in
-      whole-after s (cascade t p) es (ap (λ (v : Still). v .ground .messages) (c .same) ∙ e) d
-      (subst (MeaningOf (cascade t p)) (sym only) (c .meaning)) (c .quiet) w
+      (λ r n. ap (λ (x : Process). x .causal-length) (c .there r n) ∙ as-long r) in
+      whole-after s (cascade t p) es
+      (ap (λ (v : Still). v .ground .messages) (c .same) ∙ ap (λ (v : Scene). v .messages) e) d
+      (subst (MeaningOf (cascade t p)) (sym only) (c .order .meaning)) (c .order .quiet) w
 
   -- without a cascade nothing is delivered
   whole-plain : Sound t → Whole (with-history s es) → Whole (with-history t (gained (s size) s t es))
   whole-plain d w =
-      let none = gained-none (s size) s t es (λ r _. ap (λ (x : Process). x .causal-length) (f r)) in
-      whole-after s t es e d (subst (MeaningOf t) (sym none) (meaning-same s t e z f es (w .meaning)))
-      (quiet-same s t e z f (w .quiet)) w
+      whole-after s t es (ap (λ (v : Scene). v .messages) e) d
+      (subst (MeaningOf t) (sym (gained-none (s size) s t es (λ r _. as-long r)))
+      (subst (MeaningIn es) (sym e) (w .meaning)))
+      (subst QuietIn (sym e) (w .quiet)) w
 
 -- who multicast a message is its sender, after a multicast
 multicast-senders : (s : State) (es : List Event) (p groups : ℕ) → Whole (with-history s es) → (i q m : ℕ)
@@ -182,19 +188,17 @@ whole-step s es (multicasts p groups) e w =
     }
 whole-step s es (arrives k m q p) e w =
     let l = accepted-arrival s k m q p e .letter in
-    let g = received-ground s k m q p in
-    whole-cascade s (received s k m q p) es (ap (λ (v : Ground). v .messages) g) (ap (λ (v : Ground). v .size) g)
-    (received-process s k m q p) p (l .to) (received-to s (w .sound) k m q p l)
-    (step-sound s (arrives k m q p) e (w .sound)) w
+    whole-cascade s (received s k m q p) es (received-scene s k m q p) p (l .to)
+    (received-to s (w .sound) k m q p l) (step-sound s (arrives k m q p) e (w .sound)) w
 whole-step s es (loses k m q p) e w =
-    whole-plain s (leave s k m q p) es refl refl (λ r. refl) (step-sound s (loses k m q p) e (w .sound)) w
+    whole-plain s (leave s k m q p) es refl (step-sound s (loses k m q p) e (w .sound)) w
 whole-step s es (trusts p set) e w =
     let a = accepted-trust s p set e in
-    whole-cascade s (put s (trust p) set) es refl refl (λ r. refl) p (a .process)
+    whole-cascade s (put s (trust p) set) es refl p (a .process)
     (trusted-held s (w .sound) p set (a .process)) (step-sound s (trusts p set) e (w .sound)) w
 whole-step s es (crashes p) e w =
-    whole-plain s (put s (up p) 0) es refl refl (λ r. refl) (step-sound s (crashes p) e (w .sound)) w
-whole-step s es malformed e w = whole-plain s s es refl refl (λ r. refl) (w .sound) w
+    whole-plain s (put s (up p) 0) es refl (step-sound s (crashes p) e (w .sound)) w
+whole-step s es malformed e w = whole-plain s s es refl (w .sound) w
 
 -- ---- every item and every list keeps it
 pub whole-act : (r : Run State) (i : Item) → Whole r → Whole (act on-states r i)
