@@ -1,5 +1,4 @@
--- What the calls give on the words of a sound state: the refusals, the steps, settle's arrivals and answer, and
--- the logs are the state's. What is read off those words agrees with the state on the layout (Same), which is
+-- What the calls give on the words of a sound state: the refusals, the steps and the logs are the state's. What is read off those words agrees with the state on the layout (Same), which is
 -- all that the refusals, the steps and the choice of the lowest letter look at. Assumes nothing.
 use mathlib.Core.Path.{_≡_, refl, sym, ap, ap₂, _∙_}
 use mathlib.Core.Bool.{Bool, true, false, not, _&&_}
@@ -19,16 +18,13 @@ use Rattle.world.specs.Sound.{Sound, sound}
 use Rattle.world.specs.SoundLaws.{size-high, count-high, group-high, sender-high, fifo-length-high, causal-length-high, fifo-high, sound-words, facts-sound}
 use Rattle.world.specs.Setup.{setup-refusal, made}
 use Rattle.world.specs.Steps.{Step, multicasts, arrives, loses, trusts, crashes, malformed, read, has-group, good-mask, is-up, in-flight, refusal, accepted, step, is-process, after}
-use Rattle.world.specs.StepLaws.{accepted-multicast, accepted-arrival, accepted-loss, accepted-trust, lowest-moves, moves-taken}
-use Rattle.world.specs.Settle.{Choice, letter, nothing, moves, receiver, origin, kind, movable, letter-of, lowest, settle}
-use Rattle.world.specs.SettleLaws.{Alike, settle-related}
-use Rattle.world.specs.Words.{needs-world, making-refusal, made-words, gives, reply, step-refusal, stepped-words, settle-words, settled-words, settle-reply, log-length, log-start, log-refusal, log-words}
-use Rattle.keeps.specs.Keeps.{step-sound}
+use Rattle.world.specs.StepLaws.{accepted-multicast, accepted-arrival, accepted-loss, accepted-trust}
+use Rattle.world.specs.Settle.{Choice, letter, nothing, moves, receiver, origin, kind, movable, letter-of, lowest}
+use Rattle.world.specs.Words.{needs-world, making-refusal, made-words, step-refusal, stepped-words, log-length, log-start, log-refusal, log-words}
 use Rattle.carried.specs.Same.{Fits, Agree, same, process-low, message-low, leave-agree, arrival-agree, trust-agree, crash-agree, multicast-agree}
 use Rattle.base.specs.Tabulate.{tabulate, length-tabulate, getD-tabulate}
 use Rattle.base.specs.Count.{In, in-at}
 use Rattle.world.specs.Demand.{Listed}
-use Rattle.world.specs.Machine.{arrival}
 
 -- ---- refusals
 needs-same : (n : ℕ) {b b′ : Bool} {x x′ : ℕ} → b ≡ b′ → (b ≡ true → x ≡ x′) → needs n b x ≡ needs n b′ x′
@@ -273,49 +269,6 @@ module _ (s : State) (h : Sound s) where
           (encode s) ≡ encode (pick b (step s (read bytes)) s)
       choice true e = same-words (step-agree (view-agree s h) (read bytes) e)
       choice false e = refl
-
--- ---- a settle: the same letters arrive
-record Settling (s : State) (w : List ℕ) : Type 0 where
-  pub words : w ≡ encode s
-  pub sound-s : Sound s
-
-module _ (s : State) (w : List ℕ) (c : Settling s w) where
-  same-letter : lowest s ≡ lowest (view w)
-  same-letter =
-      lowest-agree (view-agree s (c .sound-s))
-      ∙ ap (λ (u : List ℕ). lowest (view u)) (sym (c .words))
-
-  arrives-carried : (k m q p : ℕ) → lowest s ≡ letter k m q p
-      → Settling (arrival s k m q p) (encode (arrival (view w) k m q p))
-  unfolding step
-  arrives-carried k m q p e =
-      let ok = moves-taken s k m q p (lowest-moves s k m q p e) in
-      record {
-        words =
-            ap (λ (u : List ℕ). encode (arrival (view u) k m q p)) (c .words)
-            ∙ same-words (step-agree (view-agree s (c .sound-s)) (arrives k m q p) ok);
-        sound-s = step-sound s (arrives k m q p) ok (c .sound-s);
-      }
-
-module _ (s : State) (h : Sound s) (b : ℕ) where
-  both : Alike Settling (settle s b) (settle-words (encode s) b)
-  unfolding settle settle-words
-  both =
-      settle-related lowest arrival (λ w. lowest (view w)) (λ w k m q p. encode (arrival (view w) k m q p))
-      Settling same-letter (λ t w k m q p c e. arrives-carried t w c k m q p e) b 0 s (encode s)
-      (record { words = refl; sound-s = h })
-
-  pub settle-carried : settled-words (encode s) b ≡ encode (settle s b .world)
-  unfolding settled-words
-  settle-carried =
-      ap (λ (n : ℕ). pick (eqb n 0) (settle-words (encode s) b .world) (encode s)) (sound-world s h 0)
-      ∙ both .worlds .words
-
-  pub reply-carried : settle-reply (encode s) b ≡ gives (settle s b .ending)
-  unfolding settle-reply
-  reply-carried =
-      ap (λ (n : ℕ). reply n (settle-words (encode s) b .ending)) (sound-world s h 0)
-      ∙ ap gives (sym (both .endings))
 
 -- ---- making a world
 pub making-carried : (w bytes : List ℕ) → length w ≡ 20480 → making-refusal w bytes ≡ setup-refusal bytes

@@ -32,9 +32,9 @@ use Rattle.order.specs.Order.{causal-past, past-causal, causal-once, causal-ord
 use Rattle.agreement.specs.Agreement.{Agreed as AgreedStates}
 use Rattle.bound.specs.Settle.{arrivals, SaysDone as EndsDone}
 use Rattle.carried.specs.Calls.{log-carried, listed-in, in-listed}
-use Rattle.carried.specs.Carried.{written, run-carried, setup-taken, start-carried}
+use Rattle.carried.specs.Carried.{written, settled-sound, settled-carried, answer-carried, run-carried, setup-taken, start-carried}
 use Rattle.demand.specs.States.{settled, Demand3States, demand-3-states}
-use Rattle.demand.specs.Words.{size-read, to-read, settled-sound, settled-carried, answer-carried, fair-read, run-size, along-read}
+use Rattle.demand.specs.Words.{size-read, to-read, fair-read, run-size, along-read}
 
 -- ---- conclusions 1 and 2
 module _ (r : Run State) (h : Sound (r .now)) (w : Whole r) where
@@ -164,6 +164,7 @@ module _ (setup : List ℕ) (items : List Item) (ok : setup-refusal setup ≡ 0)
 
   -- the demand on words
   demand-3-written : Demand3 (written (started setup)) items
+  unfolding settled
   demand-3-written = record {
     order = subst CausalOrder (sym carried) (causal-order r sound-last (on-states-3 .whole));
     bounded =

@@ -1,7 +1,6 @@
--- What the calls give on the words of a sound state: they are a world, the logs are the state's, settle's
--- answer and words are those of the settle of its run; and the trust rule read off the words of a run is that
--- of the states. Assumes nothing.
-use mathlib.Core.Path.{_≡_, refl, sym, ap, ap₂, _∙_, subst}
+-- What is read off the words of a run: how many processes there are, to whom a message is, and the trust rule,
+-- which is that of the states. Assumes nothing.
+use mathlib.Core.Path.{_≡_, refl, sym, ap₂, _∙_, subst}
 use mathlib.Core.Bool.{Bool, true}
 use mathlib.Core.List.{List, [], _∷_}
 use Prim.Native.Nat.{ℕ, _<_}
@@ -11,18 +10,11 @@ use Rattle.world.specs.World.{size, group, trust, up, mask, State, encode, view
 use Rattle.world.specs.Layout.{get-encode}
 use Rattle.world.specs.Sound.{Sound}
 use Rattle.world.specs.SoundLaws.{size-high}
-use Rattle.world.specs.Machine.{addressed, arrival}
-use Rattle.world.specs.Steps.{arrives, step}
-use Rattle.world.specs.Settle.{lowest, settle}
-use Rattle.world.specs.SettleLaws.{Alike, settle-related}
-use Rattle.world.specs.Words.{gives, settled-words, settle-reply}
-use Rattle.world.specs.History.{Run, Item, on-states, on-words, taken, act, run, Names, names, InForce, Fair, AllAlong}
-use Rattle.keeps.specs.Keeps.{settle-sound}
+use Rattle.world.specs.Machine.{addressed}
+use Rattle.world.specs.History.{Run, Item, on-states, on-words, act, run, Names, names, InForce, Fair, AllAlong}
 use Rattle.effects.specs.Runs.{act-keeps, run-keeps}
 use Rattle.effects.specs.Holding.{step-lasting}
-use Rattle.carried.specs.Calls.{settle-carried, reply-carried}
 use Rattle.carried.specs.Carried.{written, act-carried, act-sound}
-use Rattle.demand.specs.States.{settled}
 
 -- ---- the words of a sound state
 module _ (s : State) (h : Sound s) where
@@ -33,27 +25,6 @@ module _ (s : State) (h : Sound s) where
   -- to whom a message is
   pub to-read : (m q : ℕ) → m < 64 → q < 16 → addressed (view (encode s)) m q ≡ addressed s m q
   to-read m q hm hq = ap₂ bit (get-encode s (mask m) hm) (get-encode s (group q) hq)
-
--- ---- the settle of a run is that of its state
-module _ (r : Run State) (h : Sound (r .now)) (b : ℕ) where
-  same-settle : Alike (λ t s. t .now ≡ s) (settled r b) (settle (r .now) b)
-  unfolding settled settle step
-  same-settle =
-      settle-related (λ t. lowest (t .now)) (λ t k m q p. taken on-states t (arrives k m q p)) lowest arrival
-      (λ t s. t .now ≡ s) (λ t s e. ap lowest e)
-      (λ t s k m q p e _. ap (λ (u : State). arrival u k m q p) e) b 0 r (r .now) refl
-
-  -- it leaves the state sound
-  pub settled-sound : Sound (settled r b .world .now)
-  settled-sound = subst Sound (sym (same-settle .worlds)) (settle-sound (r .now) b h)
-
-  -- the words after a settle
-  pub settled-carried : settled-words (encode (r .now)) b ≡ encode (settled r b .world .now)
-  settled-carried = settle-carried (r .now) h b ∙ ap encode (sym (same-settle .worlds))
-
-  -- its answer
-  pub answer-carried : settle-reply (encode (r .now)) b ≡ gives (settled r b .ending)
-  answer-carried = reply-carried (r .now) h b ∙ ap gives (sym (same-settle .endings))
 
 -- ---- the trust rule
 module _ (s : State) (h : Sound s) where

@@ -21,7 +21,8 @@ use Rattle.world.specs.Settle.{Ending, done, stopped, settle}
 use Rattle.world.specs.Words.{gives, making-refusal, made-words, step-refusal, stepped-words, settled-words, settle-reply, log-words}
 use Rattle.keeps.specs.Keeps.{fresh-sound, after-sound, settle-sound}
 use Rattle.carried.specs.Calls.{view-agree}
-use Rattle.carried.specs.Calls.{refusal-carried, step-carried, settle-carried, reply-carried, making-carried, made-carried, log-carried}
+use Rattle.carried.specs.Calls.{refusal-carried, step-carried, making-carried, made-carried, log-carried}
+use Rattle.carried.specs.Carried.{settle-carried, reply-carried}
 use Rattle.known.specs.Runs.{Line, takes, settles, shows, Row, plays, checks, same-list, same-flag, same-ending, lines-pass, row-passes, all-pass, table, known-runs}
 
 -- ---- what a row says of words
