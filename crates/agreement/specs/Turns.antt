@@ -3,21 +3,20 @@
 -- any set of live processes). At the end nothing is ready at its process: each message that it holds is in
 -- the FIFO log, not in turn, or unmarked (Idle). Assumes nothing.
 use mathlib.Core.Path.{_≡_, refl, sym, ap, ap₂, _∙_, subst, subst₂}
-use mathlib.Core.Bool.{Bool, true, false, not, _&&_}
+use mathlib.Core.Bool.{Bool, true, false, not}
 use mathlib.Core.List.{List}
 use mathlib.Core.Logic.{_⊎_, inl, inr, _≢_}
 use Prim.Native.Nat.{ℕ, _+_, _-_, _≤_, _<_}
 use native.Mathlib.Omega.{arith}
 use native.Mathlib.Decide.{ℕ-discrete}
-use lib.Dec.{eqb}
 use borrow.Author.Tests.{eq-eqb, not-true}
 use Rattle.base.specs.Tests.{le-or-lt, clash, both, both-l, both-r, both-i, either, either-e, at-or-off}
 use Rattle.base.specs.Loop.{loop-keeps}
-use Rattle.base.specs.Search.{every, every-true, every-false}
+use Rattle.base.specs.Search.{every-true, every-false}
 use Rattle.base.specs.Count.{In, in-at, in-dec, out-absent}
 use Rattle.base.specs.Bits.{bit}
 use Rattle.world.specs.World.{size, count, group, trust, up, fifo-length, next, held, marks, fifo, sender, mask, number, State}
-use Rattle.world.specs.Machine.{addressed, in-turn, outside-fifo, marked, ready, fifo-one, cascade}
+use Rattle.world.specs.Machine.{addressed, marked, ready, fifo-one, cascade}
 use Rattle.world.specs.History.{Event, Names, names}
 use Rattle.world.specs.Fuel.{cascade-quiet}
 use Rattle.effects.specs.Views.{Process, Ground, ground, Still, Place, place-of, place}
@@ -262,20 +261,15 @@ not-ready s p m e h =
         unmarked q hq (both-l (bit (s (trust p)) q) (addressed s m q) (d .0))
         (both-r (bit (s (trust p)) q) (addressed s m q) (d .0)) (d .1)
 
-    last : (a b c d : Bool) → a ≡ true → b ≡ true → c ≡ true → (a && b && c && d) ≡ false → d ≡ false
-    last true true true d x y z w = w
-    last true true false d x y z w = clash z refl
-    last true false c d x y z w = clash y refl
-    last false b c d x y z w = clash x refl
-
     go : Dec (Fifo s p m) → Dec (s (number m (s (group p))) ≡ s (next p (s (sender m))))
         → Pending (place s p) m
     go (yes x) d = delivered x
     go (no x) (no d) = not-in-turn d
-    go (no x) (yes d) = found (every-false (s size) (marked s p m)
-        (last (eqb (s (held p m)) 1) (outside-fifo s p m) (in-turn s p m) (every (s size) (marked s p m))
-        (eq-eqb (s (held p m)) 1 h)
-        (out-absent x) (eq-eqb (s (number m (s (group p)))) (s (next p (s (sender m)))) d) e))
+    go (no x) (yes d) = found (every-false (s size) (marked s p m) (simp (
+      eq-eqb (s (held p m)) 1 h,
+      out-absent x,
+      eq-eqb (s (number m (s (group p)))) (s (next p (s (sender m)))) d,
+    ) at e))
 
 -- ---- the cascade
 -- what holds of a state for a set of live processes

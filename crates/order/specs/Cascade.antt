@@ -9,10 +9,10 @@ use Prim.Native.Nat.{ℕ, suc, _+_, _-_, _≤_, _<_}
 use native.Mathlib.Omega.{arith}
 use lib.Dec.{leb, eqb}
 use borrow.Author.Tests.{eqb-true, eqb-false, ne-eqb, leb-true, leb-false}
-use Rattle.base.specs.Tests.{clash, both, both-l, both-r, either, at-or-off}
+use Rattle.base.specs.Tests.{clash, both-l, both-r, either, at-or-off}
 use Rattle.base.specs.Search.{every, every-true, every-false}
 use Rattle.base.specs.Loop.{loop-keeps}
-use Rattle.base.specs.Count.{In, absent-in, absent-out, in-dec}
+use Rattle.base.specs.Count.{In, absent-out, out-absent, in-dec}
 use Rattle.world.specs.World.{size, count, group, fifo-length, causal-length, fifo, causal, next, delivered, held, sender, stamp, number, State, put}
 use Rattle.world.specs.Machine.{with-tables, addressed, in-turn, outside-fifo, outside-causal, marked, ready, fits, deliverable, deliverable-at, merge, causal-one, causal-all, appended, raised-next, fifo-one, cascade}
 use Rattle.world.specs.History.{Event, got, deliveries, grown}
@@ -102,17 +102,10 @@ module _ (s : State) (p i : ℕ) where
           waits q h (eqb-false q (s (sender x)) (d .0))
           (leb-false (s (stamp x (s (group p)) q)) (s (delivered p q)) (d .1))
 
-      rest : (b : Bool) → outside-causal s p (s (fifo p i)) ≡ b
-          → (¬ In (s (causal-length p)) (λ j. s (causal p j)) (s (fifo p i)))
-          → both b (every (s size) (fits s p (s (fifo p i)))) ≡ false
-          → every (s size) (fits s p (s (fifo p i))) ≡ false
-      rest true q a z = z
-      rest false q a z = absurd (a (absent-in (s (causal-length p)) x (λ j. s (causal p j)) q))
-
       go : Dec (In (s (causal-length p)) (λ j. s (causal p j)) (s (fifo p i)))
           → Stuck (s size) (messages s) (process s p) (s (fifo p i))
       go (yes a) = inl a
-      go (no a) = inr (found (every-false (s size) (fits s p x) (rest (outside-causal s p x) refl a e)))
+      go (no a) = inr (found (every-false (s size) (fits s p x) (simp (out-absent a) at e)))
 
 -- a message that is ready: held, outside the FIFO log, in turn, marked
 pub record Ready (s : State) (p m : ℕ) : Type 0 where
@@ -125,21 +118,17 @@ pub record Ready (s : State) (p m : ℕ) : Type 0 where
 pub ready-facts : (s : State) (p m : ℕ) → ready s p m ≡ true → Ready s p m
 unfolding ready
 ready-facts s p m e =
-    go (eqb (s (held p m)) 1) (outside-fifo s p m) (in-turn s p m) (every (s size) (marked s p m))
-    refl refl refl refl e
-  where
-    go : (a b c d : Bool) → eqb (s (held p m)) 1 ≡ a → outside-fifo s p m ≡ b → in-turn s p m ≡ c
-        → every (s size) (marked s p m) ≡ d → (a && b && c && d) ≡ true → Ready s p m
-    go true true true true ea eb ec ed z = record {
-      has = eqb-true (s (held p m)) 1 ea;
-      outside = absent-out (s (fifo-length p)) m (λ j. s (fifo p j)) eb;
-      turn = eqb-true (s (number m (s (group p)))) (s (next p (s (sender m)))) ec;
-      marks = ed;
+    let has : Bool = eqb (s (held p m)) 1 in
+    let new : Bool = outside-fifo s p m in
+    let three = both-l (has && new && in-turn s p m) (every (s size) (marked s p m)) e in
+    let two = both-l (has && new) (in-turn s p m) three in
+    record {
+      has = eqb-true (s (held p m)) 1 (both-l has new two);
+      outside = absent-out (s (fifo-length p)) m (λ j. s (fifo p j)) (both-r has new two);
+      turn = eqb-true (s (number m (s (group p)))) (s (next p (s (sender m))))
+          (both-r (has && new) (in-turn s p m) three);
+      marks = both-r (has && new && in-turn s p m) (every (s size) (marked s p m)) e;
     }
-    go true true true false ea eb ec ed z = clash {b = false} z refl
-    go true true false d ea eb ec ed z = clash {b = false} z refl
-    go true false c d ea eb ec ed z = clash {b = false} z refl
-    go false b c d ea eb ec ed z = clash {b = false} z refl
 
 -- ---- one causal delivery
 module _ (s : State) (es : List Event) (p i : ℕ) (hi : i < s (fifo-length p)) (d : Deliverable s p i)
