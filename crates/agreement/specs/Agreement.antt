@@ -195,7 +195,7 @@ module _ {r : Run State} (w : Whole r) (v : Live (is-up (r .now)) (r .now)) (cal
       (λ m ih hm us. everywhere m hm
       (λ u uu a. heard 0 m (r .now (sender m)) u (omega arith) hm (w .meaning .counting .senders m hm, us) uu
       (v .net .posted m u hm (uu .0) a))
-      (λ y u ly e uu a d. ih y ly (omega arith) (subst (λ (z : ℕ). r .now (up z) ≡ 1) (sym e) us) u uu d))
+      (λ y u ly e uu a d. ih y ly (omega arith) (rw e us) u uu d))
 
   -- what some process has delivered is everywhere
   agreement : (m p : ℕ) → p < r .now size → Fifo (r .now) p m → Everywhere m
@@ -208,7 +208,7 @@ module _ {r : Run State} (w : Whole r) (v : Live (is-up (r .now)) (r .now)) (cal
           (λ y u ly e uu a d. earlier y u ly e uu a d (vouch u uu a))
         where
           hm : m < r .now count
-          hm = elim f [ in-at i h e ↦ subst (λ (z : ℕ). z < r .now count) e (w .meaning .each p .fifo-log .old i h) ]
+          hm = elim f [ in-at i h e ↦ rw e at (w .meaning .each p .fifo-log .old i h) ]
 
           vouch : (u : ℕ) → Up (r .now) u → addressed (r .now) m u ≡ true
               → Vouched (is-up (r .now)) (r .now size) (λ x. r .now (group x)) (r .now (marks p m)) u
@@ -234,9 +234,9 @@ module _ {r : Run State} (w : Whole r) (v : Live (is-up (r .now)) (r .now)) (cal
               let g : ℕ = r .now (group x) in
               let hy : y < r .now count = omega (arith, hm) in
               let am : addressed (r .now) m x ≡ true =
-              subst (λ (z : ℕ). bit (r .now (mask m)) z ≡ true) (sym gx) a in
+              rw gx a in
               let ay : addressed (r .now) y x ≡ true =
-              subst (λ (z : ℕ). bit (r .now (mask y)) z ≡ true) (sym gx) d in
+              rw gx d in
               let fy = w .meaning .each x .fifo-log .prefix .below-in y hy ay
               (omega (
                 arith,

@@ -71,7 +71,7 @@ module _ (s : State) (k m q p : ℕ) where
       received-marks (λ r x v. bit v o ≡ true → P r x o)
       (λ two z. elim (with-cases (s (marks p m)) q o z) [
         | inl a ↦ old p m o a
-        | inr a ↦ subst (P p m) a (new two)
+        | inr a ↦ rw a at (new two)
       ])
       (λ r x _ z. old r x o z) r x
 
@@ -127,27 +127,23 @@ module _ (s : State) (k m q p : ℕ) (l : InFlight s k m q p) (sound : Sound s)
       hold-cases (λ t. Fly t x j o u) t₁ p m (λ _. on)
       (λ _. put-at t₁ (flight m (pick (in-turn t₁ p m) 2 1) p) (flight x j o) (addressees t₁ m)
       (λ v. bit v u ≡ true)
-      (λ c. let e : m ≡ x = cc in to-all u hu (subst (λ (v : ℕ). addressed s v u ≡ true) (sym e) au))
+      (λ c. let e : m ≡ x = cc in to-all u hu (rw e au))
       (λ _. on))
     where
       on : Fly (mark (leave s k m q p) k m q p) x j o u
-      on = subst (λ (v : ℕ). bit v u ≡ true) (sym (marked-flight s k m q p x j o)) z
+      on = rw (marked-flight s k m q p x j o) z
 
   -- p answers what is new to it, by a letter of kind 2 if it is in turn, else of kind 1
   module _ (new : s (held p m) ≢ 1) where
     answered : (u : ℕ) → u < s size → addressed s m u ≡ true
         → Fly (received s k m q p) m (pick (in-turn s p m) 2 1) p u
     answered u hu au =
-        subst (λ (b : Bool). Fly t m (pick b 2 1) p u)
-        (ap₂
+        rw (ap₂
         (λ (g : Ground) (o : Process).
         eqb (g .messages .number m (g .group p)) (o .next (g .messages .sender m)))
-        (mark-ground s k m q p) (mark-process s k m q p p))
-        (hold-cases (λ t. Fly t m (pick (in-turn t₁ p m) 2 1) p u) t₁ p m
+        (mark-ground s k m q p) (mark-process s k m q p p)) at (hold-cases (λ t. Fly t m (pick (in-turn t₁ p m) 2 1) p u) t₁ p m
         (λ e. absurd (new (sym (marked-held s k m q p p m) ∙ e)))
-        (λ _. subst (λ (v : ℕ). bit v u ≡ true)
-        (sym (put-same _ (flight m (pick (in-turn t₁ p m) 2 1) p) _ (addressees t₁ m) refl))
-        (to-all u hu au)))
+        (λ _. rw (put-same _ (flight m (pick (in-turn t₁ p m) 2 1) p) _ (addressees t₁ m) refl) (to-all u hu au)))
 
     -- of either kind
     answer : (u : ℕ) → u < s size → addressed s m u ≡ true
@@ -162,10 +158,10 @@ module _ (s : State) (k m q p : ℕ) (l : InFlight s k m q p) (sound : Sound s)
     -- of kind 2, if it is in turn or past it: were its number below next, m would be in the FIFO log, and held
     ok-answer : Near s m p → (u : ℕ) → u < s size → addressed s m u ≡ true → Fly (received s k m q p) m 2 p u
     ok-answer y u hu au =
-        subst (λ (b : Bool). Fly t m (pick b 2 1) p u) (go (in-turn s p m) refl) (answered u hu au)
+        rw (go (in-turn s p m) refl) at (answered u hu au)
       where
         in-log : In (s (fifo-length p)) (λ i. s (fifo p i)) m → Held s p m
-        in-log (in-at i h e) = subst (Held s p) e (n .kept p i (l .to) h)
+        in-log (in-at i h e) = rw e at (n .kept p i (l .to) h)
 
         go : (b : Bool) → in-turn s p m ≡ b → in-turn s p m ≡ true
         go true e = e
@@ -192,7 +188,7 @@ module _ (s : State) (k m q p : ℕ) (l : InFlight s k m q p) (sound : Sound s)
     new-mark = λ x r u hx _ _ z.
         marked-back s k m q p
         (λ u x r. x < s count → ((x < s count) × Mark s u x r) ⊎ ((x < s count) × Fly s x 2 r u))
-        (λ _ _ _ w h. inl (h, w)) (λ two h. inr (h, subst (λ (j : ℕ). Fly s m j q p) two (l .flies))) u x r z
+        (λ _ _ _ w h. inl (h, w)) (λ two h. inr (h, rw two at (l .flies))) u x r z
         (omega (arith, count-same));
     new-holder = λ x r hx _ z.
         received-held s k m q p
@@ -295,11 +291,8 @@ module _ (s : State) (es : List Event) (p groups : ℕ) (o : MeaningOf s es) (so
       → Fly (multicast s p groups) (s count) 0 p u
   unfolding multicast post numbered stamped raised put with-tables
   first-letters u h a =
-      subst (λ (v : ℕ). bit v u ≡ true)
-      (sym
-      (put-same s (flight (s count) 0 p) (flight (s count) 0 p)
-      (addressees (multicast s p groups) (s count)) refl))
-      (in-addressees (multicast s p groups) (s count) u h a)
+      rw (put-same s (flight (s count) 0 p) (flight (s count) 0 p)
+      (addressees (multicast s p groups) (s count)) refl) (in-addressees (multicast s p groups) (s count) u h a)
 
   -- a multicast keeps what letters tell
   pub multicast-net : s count < 64 → Net s → Net (multicast s p groups)
@@ -320,13 +313,12 @@ module _ (s : State) (es : List Event) (p groups : ℕ) (o : MeaningOf s es) (so
     new-holder = λ x r hx hr h. inl (old-held x r hx hr h, h);
     new-near = λ x r hx hr h y.
         let hx′ = old-held x r hx hr h in
-        inl (hx′, h, subst (λ (T : Type 0). T) (near-is x r hx′) y);
+        inl (hx′, h, rw (near-is x r hx′) at y);
     new-message = old-or-new (o .counting) w
         (λ x. (x < s count)
         ⊎ ToAll (multicast s p groups) x (multicast s p groups (sender x))
         (λ r u. Fly (multicast s p groups) x 0 r u))
-        (inr (λ u hu au. subst (λ (r : ℕ). Fly (multicast s p groups) (s count) 0 r u) (sym (w .new-sender))
-        (first-letters u hu au)))
+        (inr (λ u hu au. rw (w .new-sender) (first-letters u hu au)))
         (λ x hx. inl hx);
     logged =
         λ r i hr hi. inl (hi, refl, ltb-true (s (fifo r i)) (s count) (fifo-addressed s sound r i hr hi .of));

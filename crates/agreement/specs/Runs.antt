@@ -83,8 +83,8 @@ module _ (live : ℕ → Bool) (s : State) (es : List Event) (w : Whole (with-hi
         pending r x hx′ (v .idle r hr x hx′ h);
     trusted = λ r x q f hq lq a.
         let hx : x < s count =
-        elim f [ in-at i h e ↦ subst (λ (z : ℕ). z < s count) e (w .meaning .each r .fifo-log .old i h) ] in
-        v .trusted r x q f hq lq (subst (λ (z : ℕ). bit z (s (group q)) ≡ true) (o .old-mask x hx) a);
+        elim f [ in-at i h e ↦ rw e at (w .meaning .each r .fifo-log .old i h) ] in
+        v .trusted r x q f hq lq (rw (o .old-mask x hx) at a);
   }
     where
       o : OneMore (messages s) (knowledge es) p groups (messages (multicast s p groups))
@@ -98,7 +98,7 @@ module _ (live : ℕ → Bool) (s : State) (es : List Event) (w : Whole (with-hi
           (sym (o .old-number x (s (group r)) hx) ∙ e
           ∙ ap (λ (z : ℕ). s (next r z)) (o .old-sender x hx)))
       pending r x hx (unmarked q hq b a d) =
-          unmarked q hq b (subst (λ (z : ℕ). bit z (s (group q)) ≡ true) (sym (o .old-mask x hx)) a) d
+          unmarked q hq b (rw (o .old-mask x hx) a) d
 
   -- an arrival
   arrival-live : (k m q p : ℕ) → accepted s (arrives k m q p) ≡ true → Covers live s p
@@ -124,7 +124,7 @@ module _ (live : ℕ → Bool) (s : State) (es : List Event) (w : Whole (with-hi
       live-cascade live p (s (causal-length p)) es (put s (trust p) set) (trusted-held s (w .sound) p set hp)
       (cascade-begins s (put s (trust p) set) es refl p (w .meaning) (w .quiet)) c
       (trusted-net s p set (v .net))
-      (v .trusted) (λ r hr n. subst IdleAt (sym (aside r n)) (v .idle r hr))
+      (v .trusted) (λ r hr n. rw (aside r n) (v .idle r hr))
     where
       aside : (r : ℕ) → p ≢ r → place (put s (trust p) set) r ≡ place s r
       aside r n = λ j. record {

@@ -77,11 +77,10 @@ module _ (t : State) (p m : ℕ) (y : Ready t p m) (es : List Event) (o : Meanin
             a .0,
             record {
               low = hx;
-              has = subst (λ (z : ℕ). Held t z x) (sym (a .0)) h;
+              has = rw (a .0) h;
               of = sym (a .1);
               turn =
-                  subst₂ (λ (z q : ℕ). t (number x (t (group z))) ≡ t (next z q) + 1) (sym (a .0))
-                  (sym (a .1)) at-r;
+                  rw (a .0, a .1) at-r;
             },
           )
 
@@ -111,16 +110,16 @@ module _ (t : State) (p m : ℕ) (y : Ready t p m) (es : List Event) (o : Meanin
     same-to = λ x r _. turn-to x r;
     same-sender = λ x _. turn-sender x;
     once = turn-once t p m;
-    mark-on = λ x r u _ _ z. subst (λ (w : ℕ). bit w r ≡ true) (sym (turn-marks u x)) z;
+    mark-on = λ x r u _ _ z. rw (turn-marks u x) z;
     down-on = λ r d e. d (sym (ap (λ (s : Still). s .ground .up r) same) ∙ e);
     flown = λ x k r u hx hr hu a z. elim (letter-cases t p m x k r) [
-      | inl c ↦ still (subst (λ (w : ℕ). bit w u ≡ true) (sym (c .3)) (in-addressees t x u hu a))
-      | inr c ↦ still (subst (λ (w : ℕ). bit w u ≡ true) (sym c) z)
+      | inl c ↦ still (rw (c .3) (in-addressees t x u hu a))
+      | inr c ↦ still (rw c z)
     ];
     old-ok = λ x r u hx _ _ _. omega (arith, turn-count);
     new-mark =
         λ x r u hx hr hu z. inl
-        (omega (arith, turn-count), subst (λ (w : ℕ). bit w r ≡ true) (turn-marks u x) z);
+        (omega (arith, turn-count), rw (turn-marks u x) at z);
     new-holder = λ x r hx hr h. inl (omega (arith, turn-count), sym (turn-held r x) ∙ h);
     new-near = λ x r hx hr h n. nears x r (omega (arith, turn-count)) (sym (turn-held r x) ∙ h) n
         (le-or-lt (t (number x (t (group r)))) (t (next r (t (sender x)))));
@@ -143,8 +142,7 @@ module _ (t : State) (p m : ℕ) (y : Ready t p m) (es : List Event) (o : Meanin
       nears x r hx h n (inr l) =
           let c = newly-near x r hx h n l in
           inr (λ u hu a. subst (λ (z : ℕ). Fly (fifo-one t p m) x 2 z u) (c .0)
-          (subst (λ (w : ℕ). bit w u ≡ true) (sym (ok-sent t p m x (c .1)))
-          (in-addressees t x u (omega (arith, turn-size)) (sym (turn-to x u) ∙ a))))
+          (rw (ok-sent t p m x (c .1)) (in-addressees t x u (omega (arith, turn-size)) (sym (turn-to x u) ∙ a))))
 
   -- so it keeps what letters tell
   pub turn-net : Net t → Net (fifo-one t p m)
@@ -189,7 +187,7 @@ pub names-same : (live : ℕ → Bool) (s t : State) (p q : ℕ) → ground t �
 names-same live s t p q e (names r hr lr gr br) =
     names r (omega (arith, ap (λ (g : Ground). g .size) e)) lr
     (ap (λ (g : Ground). g .group r) e ∙ gr ∙ sym (ap (λ (g : Ground). g .group q) e))
-    (subst (λ (w : ℕ). bit w r ≡ true) (sym (ap (λ (g : Ground). g .trust p) e)) br)
+    (rw (ap (λ (g : Ground). g .trust p) e) br)
 
 -- so where these are as they were, a trust set names as much
 pub covers-same : (live : ℕ → Bool) (s t : State) (p : ℕ) → ground t ≡ ground s → Covers live s p
@@ -215,7 +213,7 @@ turn-trusted live t p m y es o c tr r x q (in-at i h e) hq lq a =
         → Vouched live (t size) (λ u. t (group u)) (t (marks p m)) q
     new-one (names u hu lu gu bu) am =
         vouched u hu lu gu
-        (ready-marks t p m y u hu bu (subst (λ (g : ℕ). bit (t (mask m)) g ≡ true) (sym gu) am))
+        (ready-marks t p m y u hu bu (rw gu am))
 
     go : ((i < t (fifo-length r)) × (fifo-one t p m (fifo r i) ≡ t (fifo r i)))
         ⊎ ((p ≡ r) × (fifo-one t p m (fifo r i) ≡ m))
@@ -223,8 +221,7 @@ turn-trusted live t p m y es o c tr r x q (in-at i h e) hq lq a =
     go (inl b) = tr r x q (in-at i (b .0) (sym (b .1) ∙ e)) hq′ lq a′
     go (inr b) =
         let mx : m ≡ x = sym (b .1) ∙ e in
-        subst₂ (λ (z w : ℕ). Vouched live (t size) (λ u. t (group u)) (t (marks z w)) q) (b .0) mx
-        (new-one (c q hq′ lq) (subst (λ (w : ℕ). addressed t w q ≡ true) (sym mx) a′))
+        rw (b .0, mx) at (new-one (c q hq′ lq) (rw mx a′))
 
 -- ---- why a held message is not delivered: it is, it is not in turn, or a trusted addressee's mark is
 -- missing

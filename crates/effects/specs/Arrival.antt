@@ -28,7 +28,7 @@ module _ (s : State) (k m q p : ℕ) where
   leave-less x j o u =
       put-at s (flight m k q) (flight x j o) (without (s (flight m k q)) p)
       (λ v. bit v u ≡ true → Fly s x j o u)
-      (λ e z. subst (λ (c : Cell). bit (s c) u ≡ true) e (without-old (s (flight m k q)) p u z)) (λ _ z. z)
+      (λ e z. rw e at (without-old (s (flight m k q)) p u z)) (λ _ z. z)
 
   -- a letter that flew is that one, or it still flies
   pub leave-cases : (P : ℕ → ℕ → ℕ → ℕ → Type 0) → P m k q p
@@ -45,7 +45,7 @@ module _ (s : State) (k m q p : ℕ) where
           (λ _ f. f z) rest
       go rest (no d) = rest
           (put-at s (flight m k q) (flight x j o) (without (s (flight m k q)) p) (λ v. bit v u ≡ true)
-          (λ e. without-other (s (flight m k q)) p u d ∙ subst (λ (c : Cell). bit (s c) u ≡ true) (sym e) z)
+          (λ e. without-other (s (flight m k q)) p u d ∙ rw e z)
           (λ _. z))
 
 -- ---- what an arrival before its cascade leaves

@@ -338,10 +338,7 @@ module _ (t : State) (p m x : ℕ) where
   after-oks : (k r : ℕ) → Sent (fifo-middle t p m) p (t (sender m)) (fifo-middle t p m count) x k r
       (fifo-one t p m (flight x k r))
   after-oks k r =
-      subst
-      (λ (s : State). Sent (fifo-middle t p m) p (t (sender m)) (fifo-middle t p m count) x k r (s (flight x k r)))
-      (sym (fifo-one-is t p m))
-      (oks-letters (fifo-middle t p m) p (t (sender m)) (fifo-middle t p m count) x k r)
+      rw (fifo-one-is t p m) (oks-letters (fifo-middle t p m) p (t (sender m)) (fifo-middle t p m count) x k r)
 
   -- the addressees are as they were
   mid-to : addressees (fifo-middle t p m) x ≡ addressees t x

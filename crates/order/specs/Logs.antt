@@ -40,8 +40,8 @@ module _ (n : ℕ) (log : ℕ → ℕ) (m : ℕ) where
   pub every-item : (P : ℕ → Type 0) → ((i : ℕ) → i < n → P (log i)) → P m → (i : ℕ) → i < n + 1
       → P (at-place log n m i)
   every-item P old new i h = elim (item-cases i h) [
-    | inl a ↦ subst P (sym (a .1)) (old i (a .0))
-    | inr a ↦ subst P (sym (a .1)) new
+    | inl a ↦ rw (a .1) (old i (a .0))
+    | inr a ↦ rw (a .1) new
   ]
 
   -- an old item stands where it stood
@@ -135,7 +135,7 @@ module _ {s : ℕ} {w : Messages} {k : Knowledge} {p groups : ℕ} {w′ : Messa
 
   -- an old message is to the same groups
   to-old : (m : ℕ) → m < w .total → To w′ g m → To w g m
-  to-old m h t = subst (λ (v : ℕ). bit v g ≡ true) (x .old-mask m h) t
+  to-old m h t = rw (x .old-mask m h) at t
 
   -- every log stays a prefix
   pub prefix-sent : {e n : ℕ} {log bound : ℕ → ℕ} → ((i : ℕ) → i < n → log i < w .total)
@@ -148,7 +148,7 @@ module _ {s : ℕ} {w : Messages} {k : Knowledge} {p groups : ℕ} {w′ : Messa
         (λ t l. absurd (omega (
           arith,
           o .most p,
-          new-above c x g (subst (λ (v : ℕ). bit v g ≡ true) (x .new-mask) t),
+          new-above c x g (rw (x .new-mask) at t),
           ap bound (x .new-sender),
           ap (w′ .stamp (w .total) g) (x .new-sender),
         )))
@@ -193,8 +193,7 @@ module _ {s : ℕ} {w : Messages} {k : Knowledge} {g n : ℕ} {log next : ℕ �
     order = λ i x h l e t. elim (item-cases n log m i h) [
       | inl a ↦ in-older n log m i (omega (arith, a .0))
           (o .order i x (a .0) (omega (arith, a .1)) (e ∙ ap (w .sender) (a .1)) t)
-      | inr a ↦ subst (λ (z : ℕ). In z (at-place log n m) x) (sym (a .0))
-          (in-older n log m n (omega arith) (earlier x (omega (arith, a .1)) (e ∙ ap (w .sender) (a .1)) t))
+      | inr a ↦ rw (a .0) (in-older n log m n (omega arith) (earlier x (omega (arith, a .1)) (e ∙ ap (w .sender) (a .1)) t))
     ];
     prefix =
         subst (λ (v : ℕ). Prefix 1 w g (n + 1) (at-place log n m) (at-place next (w .sender m) v))
@@ -253,7 +252,7 @@ module _ {n : ℕ} {w : Messages} {k : Knowledge} {r : Process} (c : Counting n 
   same-in x l e t = go (f .order i x hi l e t)
     where
       stuck : (j : ℕ) → r .fifo j ≡ x → Stuck n w r (r .fifo j) → In (r .causal-length) (r .causal) x
-      stuck j d (inl a) = subst (In (r .causal-length) (r .causal)) d a
+      stuck j d (inl a) = rw d at a
       stuck j d (inr (waits q hq ne lt)) =
           let b = sender-before c (r .fifo i) x (f .old i hi) (omega arith) e in
           absurd (omega (
@@ -296,11 +295,10 @@ module _ {n : ℕ} {w : Messages} {k : Knowledge} {r : Process} (c : Counting n 
     once = once-longer (r .causal-length) (r .causal) (r .fifo i) (o .once) out;
     order = λ j x h b ne t. elim (item-cases (r .causal-length) (r .causal) (r .fifo i) j h) [
       | inl a ↦ in-older (r .causal-length) (r .causal) (r .fifo i) j (omega (arith, a .0))
-          (o .order j x (a .0) (subst (λ (z : ℕ). k .before z x ≡ true) (a .1) b) (λ e. ne (e ∙ sym (a .1)))
+          (o .order j x (a .0) (rw (a .1) at b) (λ e. ne (e ∙ sym (a .1)))
           t)
-      | inr a ↦ subst (λ (z : ℕ). In z (at-place (r .causal) (r .causal-length) (r .fifo i)) x) (sym (a .0))
-          (in-older (r .causal-length) (r .causal) (r .fifo i) (r .causal-length) (omega arith)
-          (before-in x (subst (λ (z : ℕ). k .before z x ≡ true) (a .1) b) (λ e. ne (e ∙ sym (a .1))) t))
+      | inr a ↦ rw (a .0) (in-older (r .causal-length) (r .causal) (r .fifo i) (r .causal-length) (omega arith)
+          (before-in x (rw (a .1) at b) (λ e. ne (e ∙ sym (a .1))) t))
     ];
     prefix =
         subst
@@ -342,7 +340,7 @@ module _ {s : ℕ} {w : Messages} {k : Knowledge} {p groups : ℕ} {w′ : Messa
 
   -- what is in the causal log is an old message
   causal-old : CausalLog w (k .before) r → (i : ℕ) → i < r .causal-length → r .causal i < w .total
-  causal-old o i h = elim (o .in-fifo i h) [ in-at j hj e ↦ subst (λ (z : ℕ). z < w .total) e (f .old j hj) ]
+  causal-old o i h = elim (o .in-fifo i h) [ in-at j hj e ↦ rw e at (f .old j hj) ]
 
   -- nor a causal log
   pub causal-log-sent : (cs : ℕ → ℕ → ℕ) (bs : ℕ → ℕ) → CausalLog w (k .before) r

@@ -94,11 +94,11 @@ module _ {n : ℕ} {w : Messages} {k : Knowledge} {r : Process} (c : Counting n 
               past y (c .closed .before m .chain x y b b′) (omega arith) t′)
 
           go : Stuck n w r (r .fifo i) → In (r .causal-length) (r .causal) m
-          go (inl a) = subst (In (r .causal-length) (r .causal)) e a
+          go (inl a) = rw e at a
           go (inr (waits q hq ne lt)) =
               absurd (omega (
                 arith,
-                no-wait m (subst (λ (y : ℕ). y < w .total) e (f .old i hi)) all q
+                no-wait m (rw e at (f .old i hi)) all q
                     (λ y. ne (y ∙ ap (w .sender) (sym e))),
                 ap (λ (y : ℕ). w .stamp y (r .group) q) e,
               ))
@@ -115,11 +115,11 @@ module _ {r : Run State} (w : Whole r) (p : ℕ) where
       × ((x : ℕ) → Before (r .seen) x m → addressed (r .now) x p ≡ true → Fifo (r .now) p x)
   causal-past m (in-at i h e) =
       let o = w .meaning .each p .causal-log in (
-        subst (Fifo (r .now) p) e (o .in-fifo i h),
+        rw e at (o .in-fifo i h),
         λ x b t. (let y = to-before x m b in
-            elim (o .order i x h (subst (λ (z : ℕ). knowledge (r .seen) .before z x ≡ true) (sym e) (y .0))
+            elim (o .order i x h (rw e (y .0))
             (λ d. y .1 (d ∙ e)) t) [
-              | in-at j l d ↦ subst (Fifo (r .now) p) d (o .in-fifo j (omega arith))
+              | in-at j l d ↦ rw d at (o .in-fifo j (omega arith))
             ]),
       )
 
@@ -146,7 +146,7 @@ module _ {r : Run State} (w : Whole r) (p : ℕ) where
     where
       to-p : Fifo (r .now) p (r .now (causal p j)) → addressed (r .now) (r .now (causal p j)) p ≡ true
       to-p (in-at l h e) =
-          subst (λ (z : ℕ). addressed (r .now) z p ≡ true) e (w .meaning .each p .fifo-log .to-group l h)
+          rw e at (w .meaning .each p .fifo-log .to-group l h)
 
       go : In i (λ l. r .now (causal p l)) (r .now (causal p j)) → j < i
       go (in-at l h e) = same-place (ℕ-discrete l j) (le-or-lt l j)
@@ -178,7 +178,7 @@ was-multicast {r} w m h = go (cast-there (r .seen) (w .formed) m h)
   where
     go : Cast (r .seen) m → Multicast (r .seen) (r .now (sender m)) m
     go (cast-at i q a) =
-        multicast-at i (subst (λ (z : ℕ). At (r .seen) i (sent z m)) (sym (w .senders i q m a)) a)
+        multicast-at i (rw (w .senders i q m a) a)
 
 -- ---- uniform integrity: a process delivers a message at most once, only one that was multicast, and only to
 -- an addressee
@@ -243,7 +243,7 @@ counter-meaning {r} w = record {
         → e + r .now (stamp (log i) g (r .now (sender (log i)))) ≤ bound (r .now (sender (log i))))
         → e + r .now (stamp m g (r .now (sender m))) ≤ bound (r .now (sender m))
     below e bound g (in-at i l d) h =
-        subst (λ (x : ℕ). e + r .now (stamp x g (r .now (sender x))) ≤ bound (r .now (sender x))) d (h i l)
+        rw d at (h i l)
 
 -- ---- for every setup record that is taken and every list of items
 pub reached : (setup : List ℕ) (items : List Item) → setup-refusal setup ≡ 0

@@ -108,8 +108,7 @@ whole-after s t es e d o q w = record {
   sound = d;
   meaning = o;
   quiet = q;
-  formed = subst (λ (n : ℕ). Formed n (gained (s size) s t es)) (sym (ap (λ (v : Messages). v .total) e))
-      (gained-keeps (Formed (s count)) (λ _ _ _ h. h) (s size) s t es (w .formed));
+  formed = rw (ap (λ (v : Messages). v .total) e) (gained-keeps (Formed (s count)) (λ _ _ _ h. h) (s size) s t es (w .formed));
   senders = λ i q m a. ap (λ (v : Messages). v .sender m) e
       ∙ w .senders i q m (old-sent s t es a);
 }
@@ -123,8 +122,8 @@ module _ (s t : State) (es : List Event) (e : scene t ≡ scene s) where
   -- the cascade begins
   pub cascade-begins : (p : ℕ) → MeaningOf s es → QuietOf s → Cascading p (s (causal-length p)) es t t
   cascade-begins p o q = record {
-    order = subst (Ordered p (s (causal-length p)) es) (sym e) (record {
-      meaning = subst (MeaningOf s) (sym (grown-none p s s es refl)) o;
+    order = rw e (record {
+      meaning = rw (grown-none p s s es refl) o;
       quiet = q;
       start = omega arith;
     });
@@ -141,14 +140,13 @@ module _ (s t : State) (es : List Event) (e : scene t ≡ scene s) where
       (λ r n. ap (λ (x : Process). x .causal-length) (c .there r n) ∙ as-long r) in
       whole-after s (cascade t p) es
       (ap (λ (v : Still). v .ground .messages) (c .same) ∙ ap (λ (v : Scene). v .messages) e) d
-      (subst (MeaningOf (cascade t p)) (sym only) (c .order .meaning)) (c .order .quiet) w
+      (rw only (c .order .meaning)) (c .order .quiet) w
 
   -- without a cascade nothing is delivered
   whole-plain : Sound t → Whole (with-history s es) → Whole (with-history t (gained (s size) s t es))
   whole-plain d w =
       whole-after s t es (ap (λ (v : Scene). v .messages) e) d
-      (subst (MeaningOf t) (sym (gained-none (s size) s t es (λ r _. as-long r)))
-      (subst (MeaningIn es) (sym e) (w .meaning)))
+      (rw (gained-none (s size) s t es (λ r _. as-long r)) (subst (MeaningIn es) (sym e) (w .meaning)))
       (subst QuietIn (sym e) (w .quiet)) w
 
 -- who multicast a message is its sender, after a multicast
@@ -163,7 +161,7 @@ multicast-senders s es p groups w i q m a = go (at-cases a)
     go (inl b) =
         let em : s count ≡ m = cc (b .1) in
         let eq : p ≡ q = cc (b .1) in
-        subst (λ (x : ℕ). multicast s p groups (sender x) ≡ q) em (o .new-sender ∙ eq)
+        rw em at (o .new-sender ∙ eq)
     go (inr b) = o .old-sender m (cast-low es (w .formed) b) ∙ w .senders i q m b
 
 -- every accepted step keeps the invariant
@@ -176,12 +174,10 @@ whole-step s es (multicasts p groups) e w =
     let none = gained-none (s size) s t (sent p (s count) ∷ es) (λ r _. multicast-logs s p groups r) in
     record {
       sound = step-sound s (multicasts p groups) e (w .sound);
-      meaning = subst (MeaningOf t) (sym none) (meaning-multicast s es p groups (w .meaning) (a .process));
+      meaning = rw none (meaning-multicast s es p groups (w .meaning) (a .process));
       quiet = quiet-multicast s es p groups (w .meaning) (w .quiet);
       formed =
-          subst (λ (n : ℕ). Formed n (gained (s size) s t (sent p (s count) ∷ es)))
-          (sym (multicast-count s p groups))
-          (gained-keeps (Formed (suc (s count))) (λ _ _ _ h. h) (s size) s t (sent p (s count) ∷ es)
+          rw (multicast-count s p groups) (gained-keeps (Formed (suc (s count))) (λ _ _ _ h. h) (s size) s t (sent p (s count) ∷ es)
           (refl, w .formed));
       senders = λ i q m b.
           multicast-senders s es p groups w i q m (old-sent s t (sent p (s count) ∷ es) b);
