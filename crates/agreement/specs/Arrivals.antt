@@ -138,12 +138,16 @@ module _ (s : State) (k m q p : ℕ) (l : InFlight s k m q p) (sound : Sound s)
     answered : (u : ℕ) → u < s size → addressed s m u ≡ true
         → Fly (received s k m q p) m (pick (in-turn s p m) 2 1) p u
     answered u hu au =
-        rw (ap₂
-        (λ (g : Ground) (o : Process).
-        eqb (g .messages .number m (g .group p)) (o .next (g .messages .sender m)))
-        (mark-ground s k m q p) (mark-process s k m q p p)) at (hold-cases (λ t. Fly t m (pick (in-turn t₁ p m) 2 1) p u) t₁ p m
+        hold-cases (λ t. Fly t m (pick (in-turn s p m) 2 1) p u) t₁ p m
         (λ e. absurd (new (sym (marked-held s k m q p p m) ∙ e)))
-        (λ _. rw (put-same _ (flight m (pick (in-turn t₁ p m) 2 1) p) _ (addressees t₁ m) refl) (to-all u hu au)))
+        (λ _. rw (turn-same, put-same _ (flight m (pick (in-turn t₁ p m) 2 1) p) _ (addressees t₁ m) refl)
+        (to-all u hu au))
+      where
+        turn-same : in-turn s p m ≡ in-turn (mark (leave s k m q p) k m q p) p m
+        turn-same =
+            sym (ap₂ (λ (g : Ground) (o : Process).
+            eqb (g .messages .number m (g .group p)) (o .next (g .messages .sender m)))
+            (mark-ground s k m q p) (mark-process s k m q p p))
 
     -- of either kind
     answer : (u : ℕ) → u < s size → addressed s m u ≡ true

@@ -3,7 +3,7 @@
 -- addressee, and so has whoever is in turn and the sender, unless an end is down or the letter still flies.
 -- Every change of a world that loses no letter between up processes, and sends what it owes (Progress), keeps
 -- this. Assumes nothing.
-use mathlib.Core.Path.{_≡_, refl, sym, _∙_, subst}
+use mathlib.Core.Path.{_≡_, refl, sym, _∙_}
 use mathlib.Core.Bool.{true}
 use mathlib.Core.Logic.{_⊎_, inl, inr, _≢_}
 use Prim.Native.Nat.{ℕ, _<_}

@@ -142,7 +142,8 @@ module _ (t : State) (p m : ℕ) (y : Ready t p m) (es : List Event) (o : Meanin
       nears x r hx h n (inr l) =
           let c = newly-near x r hx h n l in
           inr (λ u hu a. subst (λ (z : ℕ). Fly (fifo-one t p m) x 2 z u) (c .0)
-          (rw (ok-sent t p m x (c .1)) (in-addressees t x u (omega (arith, turn-size)) (sym (turn-to x u) ∙ a))))
+          (rw (ok-sent t p m x (c .1))
+          (in-addressees t x u (omega (arith, turn-size)) (sym (turn-to x u) ∙ a))))
 
   -- so it keeps what letters tell
   pub turn-net : Net t → Net (fifo-one t p m)

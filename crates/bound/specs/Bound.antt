@@ -162,7 +162,10 @@ pub reached-potential : (s : State) → Sound s → ((k m q u : ℕ) → Fly s m
 unfolding potential cost
 reached-potential s h spent =
     sum-mono (s count) (of-message (s size) s) (λ m. ceiling (addressee-count s m))
-    (λ m hm. omega (arith, message-few s h m hm 1 (λ k q u _ _. once k m q u (bool-cases (bit (s (flight m k q)) u)))))
+    (λ m hm. omega (
+      arith,
+      message-few s h m hm 1 (λ k q u _ _. once k m q u (bool-cases (bit (s (flight m k q)) u))),
+    ))
   where
     once : (k m q u : ℕ) → (bit (s (flight m k q)) u ≡ true) ⊎ (bit (s (flight m k q)) u ≡ false)
         → one (bit (s (flight m k q)) u) + one (owed s k m q u) ≤ 1

@@ -3,7 +3,7 @@
 -- message, an OK while its origin does not hold it in turn or past it. What is sent was not sent before and is
 -- now (Once), so that no step but a multicast raises the potential; an arrival lowers it by one at least.
 -- Assumes nothing.
-use mathlib.Core.Path.{_≡_, refl, sym, ap, ap₂, _∙_, subst, subst₂}
+use mathlib.Core.Path.{_≡_, refl, sym, ap, ap₂, _∙_}
 use mathlib.Core.Bool.{Bool, true, false, not}
 use mathlib.Core.Logic.{_⊎_, inl, inr}
 use Prim.Native.Nat.{ℕ, zero, suc, _+_, _≤_, _<_}
@@ -44,7 +44,7 @@ sum-falls (suc n) f g h j l e = go (ℕ-discrete j n) (λ k. sum-falls n f g (λ
   where
     go : Dec (j ≡ n) → (j < n → sum n f < sum n g) → sum n f + f n < sum n g + g n
     go (yes q) ih =
-        let e′ : f n < g n = subst (λ (x : ℕ). f x < g x) q e in
+        let e′ : f n < g n = rw q at e in
         omega (arith, sum-mono n f g (λ i a. h i (omega arith)))
     go (no q) ih = omega (arith, ih (omega arith), h n (omega arith))
 
@@ -188,8 +188,7 @@ pub potential-falls : (s t : State) → t count ≡ s count → t size ≡ s siz
     → potential t < potential s
 unfolding potential
 potential-falls s t ec ez low k m q u hk hm hq hu less =
-    subst₂ (λ (c i : ℕ). sum c (of-message i t) < sum (s count) (of-message n s)) (sym ec) (sym ez)
-    (sum-falls (s count) (of-message n t) (of-message n s)
+    rw (ec, ez) (sum-falls (s count) (of-message n t) (of-message n s)
     (λ x hx. sum-mono 3 (of-kind n t x) (of-kind n s x) (λ j hj. kinds j x hj hx)) m hm
     (sum-falls 3 (of-kind n t m) (of-kind n s m) (λ j hj. kinds j m hj hm) k hk
     (sum-falls n (from-one n t m k) (from-one n s m k) (λ r hr. ones k m r hk hm hr) q hq

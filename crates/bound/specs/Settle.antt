@@ -2,7 +2,7 @@
 -- potential, and with a budget of at least that it says done, with no letter left to move. For any choice of
 -- the next letter that names only letters that can move, and names nothing only where none can; document 01's
 -- choice of the lowest is one. Assumes nothing.
-use mathlib.Core.Path.{_≡_, refl, ap, subst}
+use mathlib.Core.Path.{_≡_, refl, ap}
 use mathlib.Core.List.{List}
 use Prim.Native.Nat.{ℕ, zero, suc, _+_, _*_, _≤_, _<_}
 use native.Mathlib.Omega.{arith}
@@ -109,7 +109,7 @@ module _ (choose : State → Choice) (good : (s : State) → Chosen s (choose s)
       → Ended choose arrival Sound potential b 0 s (settle-from choose arrival b 0 s)
   choice-ends s b h =
       settle-ends choose arrival Sound potential
-      (λ t k m q p e z. moved t k m q p (subst (Chosen t) e (good t)) z) b 0 s h
+      (λ t k m q p e z. moved t k m q p (rw e at (good t)) z) b 0 s h
     where
       moved : (t : State) (k m q p : ℕ) → Moves t k m q p → Sound t
           → Falls choose arrival Sound potential t (arrival t k m q p)

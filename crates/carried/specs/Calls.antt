@@ -1,5 +1,6 @@
--- What the calls give on the words of a sound state: the refusals, the steps and the logs are the state's. What is read off those words agrees with the state on the layout (Same), which is
--- all that the refusals, the steps and the choice of the lowest letter look at. Assumes nothing.
+-- What the calls give on the words of a sound state: the refusals, the steps and the logs are the state's. What is
+-- read off those words agrees with the state on the layout (Same), which is all that the refusals, the steps and
+-- the choice of the lowest letter look at. Assumes nothing.
 use mathlib.Core.Path.{_≡_, refl, sym, ap, ap₂, _∙_}
 use mathlib.Core.Bool.{Bool, true, false, not, _&&_}
 use mathlib.Core.List.{List, []}
@@ -216,7 +217,8 @@ sound-fits s h (next p q) w = tt
 sound-fits s h (delivered p q) w = tt
 sound-fits s h (up p) w = tt
 sound-fits s h (fifo-length p) w = omega (arith, fifo-length-high s h p w, count-high s h)
-sound-fits s h (causal-length p) w = omega (arith, causal-length-high s h p w, fifo-length-high s h p w, count-high s h)
+sound-fits s h (causal-length p) w =
+    omega (arith, causal-length-high s h p w, fifo-length-high s h p w, count-high s h)
 sound-fits s h (held p m) w = tt
 sound-fits s h (marks p m) w = tt
 sound-fits s h (fifo p i) w = fifo-high s h p i (w .0) (w .1)

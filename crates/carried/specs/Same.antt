@@ -60,7 +60,7 @@ put-agree {s} {t} c d v w ec ev f a =
         (λ n. a .at e i .0 ∙ sym (put-other t c e v n))
 
     fit : (e : Cell) → Within e → Fits e (put s c v e)
-    fit e i = put-at s c e v (Fits e) (λ q. subst (λ (x : Cell). Fits x v) q f) (λ _. a .at e i .1)
+    fit e i = put-at s c e v (Fits e) (λ q. rw q at f) (λ _. a .at e i .1)
 
 -- a choice between two
 pick-agree : {s t s′ t′ : State} (b b′ : Bool) → b ≡ b′ → Agree s t → Agree s′ t′

@@ -1,7 +1,7 @@
 -- Runs that meet the hypotheses of demand 3, computed on states: one in which a message is overtaken by one
 -- that it precedes, and waits; and one in which a process crashes and the trust rule holds, so that the FIFO
 -- logs agree after a settle. Assumes nothing.
-use mathlib.Core.Path.{_≡_, refl, sym, subst}
+use mathlib.Core.Path.{_≡_, refl, sym}
 use mathlib.Core.Bool.{Bool, true, false, _&&_}
 use mathlib.Core.List.{List, [], _∷_}
 use Prim.Native.Nat.{ℕ, _<_}
@@ -127,7 +127,8 @@ crashing =
 
 -- what holds of 0 and 1 holds below 2
 two : (P : ℕ → Type 0) → P 0 → P 1 → (x : ℕ) → x < 2 → P x
-two P a b x h = at-or-off 0 (λ y. y < 2 → P y) (λ _. a) (λ y n l. subst P (let e : 1 ≡ y = omega arith in e) b) x h
+two P a b x h =
+    at-or-off 0 (λ y. y < 2 → P y) (λ _. a) (λ y n l. let e : 1 ≡ y = omega arith in rw e at b) x h
 
 -- the runs after no, one, two, three and all four steps
 abbrev r₀ : Run State
@@ -181,8 +182,8 @@ crash-rule = record {
   fair = λ p q hp hq u b.
       two (λ x. r₄ .now (up x) ≡ 1 → bit (r₄ .now (trust x)) q ≡ true → r₄ .now (up q) ≡ 1)
       (λ v _. absurd (let z : _≡_ {A = ℕ} 0 1 = v in omega arith))
-      (λ _ c. two (λ x. bit (r₄ .now (trust 1)) x ≡ true → r₄ .now (up x) ≡ 1) (λ d. clash d refl) (λ _. refl) q hq c)
-      p hp u b;
+      (λ _ c. two (λ x. bit (r₄ .now (trust 1)) x ≡ true → r₄ .now (up x) ≡ 1) (λ d. clash d refl) (λ _. refl)
+      q hq c) p hp u b;
 }
   where
     trusts : (s : State) → Both s → InForce (is-up (r₄ .now)) s

@@ -2,7 +2,7 @@
 -- (crate order), the bound from the potential (crate bound), agreement from letters and trust (crate
 -- agreement): a settle that says done leaves no letter between up processes, and keeps the trust rule of the
 -- list, its live processes and its trust sets. Assumes nothing.
-use mathlib.Core.Path.{_≡_, refl, sym, ap, _∙_, subst, fun-ext}
+use mathlib.Core.Path.{_≡_, refl, sym, ap, _∙_, fun-ext}
 use mathlib.Core.Bool.{Bool, true, false}
 use mathlib.Core.List.{List}
 use mathlib.Core.Logic.{_⊎_, inl, inr}
@@ -11,17 +11,15 @@ use native.Mathlib.Omega.{arith}
 use lib.Dec.{eqb}
 use borrow.Author.Tests.{eq-eqb}
 use Rattle.base.specs.Tests.{bool-cases, clash, both, both-i}
-use Rattle.base.specs.Bits.{bit}
 use Rattle.world.specs.World.{size, trust, up, State}
 use Rattle.world.specs.Setup.{setup-refusal}
 use Rattle.world.specs.Steps.{arrives, is-up, in-flight, step}
-use Rattle.world.specs.StepLaws.{Moves, Chosen, lowest-chosen, lowest-moves, moves-taken}
+use Rattle.world.specs.StepLaws.{Moves, lowest-chosen, lowest-moves, moves-taken}
 use Rattle.world.specs.Settle.{nothing, moves, lowest, Settled, settle-from}
 use Rattle.world.specs.History.{Run, Item, on-states, taken, run, started, Fair, TrustRule}
 use Rattle.effects.specs.Views.{Ground, ground}
 use Rattle.order.specs.Runs.{Whole, whole-started, whole-step}
 use Rattle.order.specs.Order.{reached}
-use Rattle.agreement.specs.Turns.{Live}
 use Rattle.agreement.specs.Runs.{live-started, During, arrival-during, along-ends, live-run}
 use Rattle.agreement.specs.Agreement.{Calm, Agreed, agrees}
 use Rattle.bound.specs.Potential.{potential}
@@ -41,7 +39,7 @@ calm s e k m q p hk hm hq hp uq up-p = go (bool-cases (in-flight s k m q p))
     go (inl z) = clash
         (both-i (both (in-flight s k m q p) (is-up s q)) (is-up s p)
         (both-i (in-flight s k m q p) (is-up s q) z (eq-eqb (s (up q)) 1 uq)) (eq-eqb (s (up p)) 1 up-p))
-        (subst (Chosen s) e (lowest-chosen s) k m q p hk hm hq hp)
+        (rw e at (lowest-chosen s) k m q p hk hm hq hp)
 
 -- ---- demand 3, for the run of a list of items
 pub record Demand3States (r : Run State) (items : List Item) : Type 0 where
@@ -107,8 +105,7 @@ module _ (setup : List ℕ) (items : List Item) (ok : setup-refusal setup ≡ 0)
         let e = during b in
         let d = e .kept in
         agrees (d .whole)
-        (subst (λ (f : ℕ → Bool). Live f (t .now))
-        (fun-ext (λ q. ap (λ (g : Ground). eqb (g .up q) 1) (sym (d .ground-is)))) (d .lives))
+        (rw (fun-ext (λ q. ap (λ (g : Ground). eqb (g .up q) 1) (sym (d .ground-is)))) at (d .lives))
         (calm (t .now) (e .finishes (omega (arith, reached-low setup items ok)) .1)) (fair-after (d .ground-is))
       where
         t : Run State
@@ -122,7 +119,7 @@ module _ (setup : List ℕ) (items : List Item) (ok : setup-refusal setup ≡ 0)
             ∙ rule .fair p q (omega (arith, ap (λ (x : Ground). x .size) g))
             (omega (arith, ap (λ (x : Ground). x .size) g))
             (sym (ap (λ (x : Ground). x .up p) g) ∙ u)
-            (subst (λ (x : ℕ). bit x q ≡ true) (ap (λ (x : Ground). x .trust p) g) z)
+            (rw (ap (λ (x : Ground). x .trust p) g) at z)
 
   -- demand 3 over states
   pub demand-3-states : Demand3States (started setup) items

@@ -1,7 +1,7 @@
 -- What is read off the words of a run: how many processes there are, to whom a message is, and the trust rule,
 -- which is that of the states. Assumes nothing.
-use mathlib.Core.Path.{_≡_, refl, sym, ap₂, _∙_, subst}
-use mathlib.Core.Bool.{Bool, true}
+use mathlib.Core.Path.{_≡_, refl, sym, ap₂, _∙_}
+use mathlib.Core.Bool.{Bool}
 use mathlib.Core.List.{List, [], _∷_}
 use Prim.Native.Nat.{ℕ, _<_}
 use native.Mathlib.Omega.{arith}
@@ -44,7 +44,7 @@ module _ (s : State) (h : Sound s) where
           let hv′ : v < s size = omega (arith, size-read s h) in
           names v hv′ (sym (e v hv′) ∙ lv)
           (sym (get-encode s (group v) (low v hv′)) ∙ gv ∙ get-encode s (group q) (low q hq))
-          (subst (λ (x : ℕ). bit x v ≡ true) (get-encode s (trust p) (low p hp)) bv)
+          (rw (get-encode s (trust p) (low p hp)) at bv)
 
   -- and that up processes trust up processes only
   pub fair-read : Fair (view (encode s)) → Fair s
@@ -52,7 +52,7 @@ module _ (s : State) (h : Sound s) where
       sym (get-encode s (up q) (low q hq))
       ∙ f p q (omega (arith, size-read s h)) (omega (arith, size-read s h))
       (get-encode s (up p) (low p hp) ∙ u)
-      (subst (λ (x : ℕ). bit x q ≡ true) (sym (get-encode s (trust p) (low p hp))) b)
+      (rw (get-encode s (trust p) (low p hp)) b)
 
 -- ---- the number of processes is changed by no item
 act-size : (r : Run State) (i : Item) → act on-states r i .now size ≡ r .now size
@@ -72,5 +72,5 @@ module _ (n : ℕ) (live live′ : ℕ → Bool) (e : (q : ℕ) → q < n → li
   along-read (i ∷ items) r z h f = (
     in-force-read (r .now) h live live′ (λ q l. e q (omega arith)) (f .0),
     along-read items (act on-states r i) (act-size r i ∙ z) (act-sound r i h)
-        (subst (λ (t : Run (List ℕ)). AllAlong on-words live t items) (act-carried r i h) (f .1)),
+        (rw (act-carried r i h) at (f .1)),
   )

@@ -1,13 +1,13 @@
 -- The parts of an arrival before its cascade, and of the other steps: what they leave as it was. A letter
 -- leaves, a mark is set, a message is held and answered: none of these touches a process's record, the
 -- messages, or who is up and trusted. Assumes nothing.
-use mathlib.Core.Path.{_≡_, refl, sym, ap, _∙_, subst, subst₂}
+use mathlib.Core.Path.{_≡_, refl, sym, ap, _∙_, subst₂}
 use mathlib.Core.Bool.{true}
 use Prim.Native.Nat.{ℕ}
 use mathlib.Core.Logic.{_≢_}
 use native.Mathlib.Decide.{ℕ-discrete}
 use Rattle.base.specs.Bits.{bit, without, without-old, without-other}
-use Rattle.world.specs.World.{Cell, held, flight, State, put}
+use Rattle.world.specs.World.{held, flight, State, put}
 use Rattle.world.specs.Layout.{put-at}
 use Rattle.world.specs.Kept.{mark-cases, hold-cases, marked-keeps, received-keeps}
 use Rattle.world.specs.Machine.{leave, mark, received}

@@ -1,7 +1,7 @@
 -- What the cascade at p leaves as it was, and what each of its parts writes. The causal deliveries write p's
 -- causal log, del and counters; a FIFO delivery besides these p's FIFO log, next of the sender, and OKs from
 -- p. Assumes nothing.
-use mathlib.Core.Path.{_≡_, refl, sym, ap, ap₂, _∙_, subst}
+use mathlib.Core.Path.{_≡_, refl, sym, ap, ap₂, _∙_}
 use mathlib.Core.Bool.{Bool, true, false, _&&_}
 use mathlib.Core.Logic.{_⊎_, inl, inr, _≢_}
 use Prim.Native.Nat.{ℕ, zero, suc, _+_, _-_, _≤_, _<_, max}

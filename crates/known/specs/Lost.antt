@@ -3,7 +3,7 @@
 -- could send one again. So it never enters a FIFO log, and by conclusion 1 of demand 3 message 2 never enters the
 -- causal log of process 2. The facts hold after the run, which is computed, and each step keeps them. Assumes
 -- nothing.
-use mathlib.Core.Path.{_≡_, refl, sym, ap, ap₂, _∙_, subst}
+use mathlib.Core.Path.{_≡_, refl, ap, ap₂, _∙_}
 use mathlib.Core.Bool.{Bool, true, false, not}
 use mathlib.Core.List.{List, [], _∷_, _++_}
 use mathlib.Core.Logic.{_≢_, inl, inr}
@@ -177,7 +177,7 @@ then items = run on-states (started three) (case-4 ++ items)
 after-lost : (items : List Item) → Lost (then items)
 unfolding end-4
 after-lost items =
-    subst Lost (sym (run-append (started three) case-4 items)) (run-keeps Lost lost-step end-4 items end-4-lost)
+    rw (run-append (started three) case-4 items) (run-keeps Lost lost-step end-4 items end-4-lost)
 
 -- After the run and any further items, message 2 is not in the causal log of process 2.
 pub run-4-stays : (items : List Item) (i : ℕ) → i < then items .now (causal-length 2)
@@ -192,7 +192,7 @@ run-4-stays items i l e =
     not-there : Lost (then items) → Fifo (then items .now) 2 0 → ⊥
     not-there o (in-at j h d) =
         o .unheld 2 (omega arith)
-        (subst (Held (then items .now) 2) d (o .known .1 .net .kept 2 j (omega (arith, o .three)) h))
+        (rw d at (o .known .1 .net .kept 2 j (omega (arith, o .three)) h))
 
 -- The same of what the log call returns, on any lent words.
 pub run-4-words : (w : List ℕ) → length w ≡ 20480 → (items : List Item) (i : ℕ)

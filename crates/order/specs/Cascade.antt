@@ -1,7 +1,7 @@
 -- What the counters and logs of a state mean, given its history (Meaning), and that the cascade keeps it:
 -- each causal delivery, each FIFO delivery with next raised, the OKs, and so the two loops. At the end
 -- nothing is left to deliver causally, since the fuel suffices (Fuel of world). Assumes nothing.
-use mathlib.Core.Path.{_≡_, refl, sym, ap, ap₂, _∙_, subst, subst₂}
+use mathlib.Core.Path.{_≡_, refl, sym, ap, ap₂, _∙_, subst₂}
 use mathlib.Core.Bool.{Bool, true, false, _&&_}
 use mathlib.Core.List.{List, _∷_}
 use mathlib.Core.Logic.{inl, inr, _≢_}
@@ -140,8 +140,7 @@ module _ (s : State) (es : List Event) (p i : ℕ) (hi : i < s (fifo-length p)) 
     counting = counting-got (o .counting) p (s (fifo p i));
     each = at-or-off p
         (λ x. Means (messages s) (learn (got p (s (fifo p i))) (knowledge es)) x (process (causal-one s p i) x))
-        (subst (Means (messages s) (learn (got p (s (fifo p i))) (knowledge es)) p) (sym (causal-one-here s p i))
-        (record {
+        (rw (causal-one-here s p i) (record {
           counters = λ g q. counter-here (o .counting) p (s (fifo p i)) (mine .fifo-log .old i hi) g q
               (process s p .counter g q) (mine .counters g q);
           sequences = mine .sequences;
@@ -150,8 +149,7 @@ module _ (s : State) (es : List Event) (p i : ℕ) (hi : i < s (fifo-length p)) 
               causal-log-more (o .counting) (mine .fifo-log) (mine .causal-log) i hi (d .outside) (d .free)
               first;
         }))
-        (λ x n. subst (Means (messages s) (learn (got p (s (fifo p i))) (knowledge es)) x)
-        (sym (causal-one-there s p i x n)) (record {
+        (λ x n. rw (causal-one-there s p i x n) (record {
           counters = λ g q. counter-there (o .counting) p (s (fifo p i)) x g q (process s x .counter g q) n
               (o .each x .counters g q);
           sequences = o .each x .sequences;
@@ -171,13 +169,13 @@ unfolding raised-next appended put fifo-delivered
 meaning-fifo s es p m y hm tm o = record {
   counting = o .counting;
   each = at-or-off p (λ x. Means (messages s) (knowledge es) x (process (fifo-started s p m) x))
-      (subst (Means (messages s) (knowledge es) p) (sym (fifo-started-here s p m)) (record {
+      (rw (fifo-started-here s p m) (record {
         counters = o .each p .counters;
         sequences = o .each p .sequences;
         fifo-log = fifo-log-more (o .counting) (o .each p .fifo-log) m hm tm (y .outside) (y .turn);
         causal-log = causal-log-fifo m (o .each p .causal-log);
       }))
-      (λ x n. subst (Means (messages s) (knowledge es) x) (sym (fifo-started-there s p m x n)) (o .each x));
+      (λ x n. rw (fifo-started-there s p m x n) (o .each x));
 }
 
 -- ---- the events of a step, read off the causal log
@@ -220,7 +218,7 @@ unfolding causal-all
 delivering-all p a es s =
     loop-keeps (λ u. u (fifo-length p)) (λ u. deliverable-at u p) (λ u. causal-one u p) (Delivering p a es)
     (λ t i hi e first m. record {
-      meaning = subst (MeaningOf (causal-one t p i)) (sym (grown-one p a i t es (m .start)))
+      meaning = rw (grown-one p a i t es (m .start))
           (meaning-causal t (grown p a t es) p i hi (deliverable-facts t p i e)
           (λ j l. stuck-facts t p j (first j l)) (m .meaning));
       start = omega (arith, causal-long t p i, m .start);
@@ -275,7 +273,7 @@ module _ (p a : ℕ) (es : List Event) (b t : State) (h : HeldTo b p) (m : ℕ) 
   -- so a turn keeps it
   pub cascading-more : Cascading p a es b (fifo-one t p m)
   cascading-more = record {
-    order = subst (Ordered p a es) (sym (fifo-one-scene t p m))
+    order = rw (fifo-one-scene t p m)
         (record { meaning = middle .meaning; quiet = quiet-middle; start = middle .start });
     same = fifo-one-still t p m ∙ o .same;
     there = λ r n. fifo-one-there t p m r n ∙ o .there r n;

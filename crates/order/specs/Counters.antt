@@ -3,7 +3,7 @@
 -- those in its past. A delivery takes the larger of two counts, and both count prefixes of q's messages, so
 -- that is the count of the union. A multicast counts one more, and only what the new message is. Assumes
 -- nothing.
-use mathlib.Core.Path.{_≡_, refl, sym, ap, ap₂, _∙_, subst}
+use mathlib.Core.Path.{_≡_, refl, sym, ap, ap₂, _∙_}
 use mathlib.Core.Bool.{Bool, true, false}
 use mathlib.Core.Logic.{_⊎_, inl, inr, _≢_}
 use Prim.Native.Nat.{ℕ, suc, _+_, _≤_, _<_, max}
@@ -117,7 +117,7 @@ module _ {n : ℕ} {w : Messages} {k : Knowledge} (c : Counting n w k) where
   own-all p g =
       tally-cong (w .total) (λ x. both (k .past p x) (of-to w p g x)) (of-to w p g)
       (λ x h. both-less (k .past p x) (of-to w p g x)
-      (λ e. subst (λ (z : ℕ). k .past z x ≡ true) (of w p g x e) (c .closed .past-own x h)))
+      (λ e. rw (of w p g x e) at (c .closed .past-own x h)))
 
 -- ---- a delivery
 union : (a b d : Bool) → both (either b a) d ≡ either (both a d) (both b d)
@@ -265,8 +265,7 @@ module _ {n : ℕ} {w : Messages} {k : Knowledge} {p groups : ℕ} {w′ : Messa
   pub counting-sent : p < n → Counting n w′ (learn (sent p (w .total)) k)
   counting-sent hp = record {
     closed =
-        subst (λ (t : ℕ). Closed t (w′ .sender) (learn (sent p (w .total)) k))
-        (sym (o .total ∙ add-one (w .total)))
+        rw (o .total ∙ add-one (w .total))
         (closed-sent p (c .closed) (w′ .sender) (o .old-sender) (o .new-sender));
     senders = old-or-new (λ m. w′ .sender m < n) (rw (o .new-sender) hp)
         (λ m l. rw (o .old-sender m l) (c .senders m l));
@@ -311,4 +310,5 @@ module _ {n : ℕ} {w : Messages} {k : Knowledge} {p groups : ℕ} {w′ : Messa
           alone false = refl
 
       at-old : (x : ℕ) → x < w .total → learn (sent p (w .total)) k .past r x ≡ k .past r x
-      at-old x h = rw (ne-eqb (w .total) x (omega arith), both-less (eqb p r) false (λ e. clash {b = false} e refl))
+      at-old x h =
+          rw (ne-eqb (w .total) x (omega arith), both-less (eqb p r) false (λ e. clash {b = false} e refl))

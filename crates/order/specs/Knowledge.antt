@@ -152,8 +152,7 @@ module _ {n : ℕ} {sender : ℕ → ℕ} {k : Knowledge} (p : ℕ) (c : Closed 
       mine x y a h s (no b) =
           let l : y < n = omega arith in
           either-r (eqb n y) (k .past p y)
-          (subst (λ (z : ℕ). k .past z y ≡ true) (sym (old y l) ∙ s ∙ ap sender′ (sym a) ∙ new)
-          (c .past-own y l))
+          (rw (sym (old y l) ∙ s ∙ ap sender′ (sym a) ∙ new) at (c .past-own y l))
 
   pub closed-sent : Closed (suc n) sender′ (learn (sent p n) k)
   closed-sent = record {
@@ -198,4 +197,4 @@ module _ {n : ℕ} {sender : ℕ → ℕ} {k : Knowledge} (p : ℕ) (c : Closed 
       owns m h (no a) =
           let l : m < n = omega arith in
           past-grows (sent p n) k (sender′ m) m
-          (subst (λ (z : ℕ). k .past z m ≡ true) (sym (old m l)) (c .past-own m l))
+          (rw (old m l) (c .past-own m l))

@@ -11,7 +11,6 @@ use native.Mathlib.Decide.{ℕ-discrete}
 use borrow.Author.Tests.{ne-eqb}
 use Rattle.base.specs.Tests.{le-or-lt, pick-yes, pick-no, eqb-refl}
 use Rattle.base.specs.Count.{In, in-at, in-wider}
-use Rattle.base.specs.Bits.{bit}
 use Rattle.world.specs.History.{sent}
 use Rattle.effects.specs.Views.{Messages, Process}
 use Rattle.effects.specs.Cascade.{at-place, fifo-delivered, causal-delivered}
@@ -193,7 +192,8 @@ module _ {s : ℕ} {w : Messages} {k : Knowledge} {g n : ℕ} {log next : ℕ �
     order = λ i x h l e t. elim (item-cases n log m i h) [
       | inl a ↦ in-older n log m i (omega (arith, a .0))
           (o .order i x (a .0) (omega (arith, a .1)) (e ∙ ap (w .sender) (a .1)) t)
-      | inr a ↦ rw (a .0) (in-older n log m n (omega arith) (earlier x (omega (arith, a .1)) (e ∙ ap (w .sender) (a .1)) t))
+      | inr a ↦ rw (a .0) (in-older n log m n (omega arith)
+          (earlier x (omega (arith, a .1)) (e ∙ ap (w .sender) (a .1)) t))
     ];
     prefix =
         subst (λ (v : ℕ). Prefix 1 w g (n + 1) (at-place log n m) (at-place next (w .sender m) v))

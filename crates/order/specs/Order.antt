@@ -128,7 +128,8 @@ module _ {r : Run State} (w : Whole r) (p : ℕ) where
       → ((x : ℕ) → Before (r .seen) x m → addressed (r .now) x p ≡ true → Fifo (r .now) p x)
       → Causal (r .now) p m
   past-causal m f all =
-      all-delivered (w .meaning .counting) (w .meaning .each p .fifo-log) (w .meaning .each p .causal-log) (w .quiet p) m f
+      let o = w .meaning .each p in
+      all-delivered (w .meaning .counting) (o .fifo-log) (o .causal-log) (w .quiet p) m f
       (λ x b ne t. all x (before-precedes (r .seen) (r .now count) (w .formed) x m b ne) t)
 
   -- conclusion 2: no causal log holds a message twice

@@ -182,7 +182,7 @@ known-same (h ∷ es) {i} {j} {d} {e} x l a b w z =
         let y = known-past x a′ (sym (at-older h es i x (at-low a′)) ∙ z) in
         at-newest h es j x (b′ .0)
         ∙ past-grows h (knowledge es) (who h) x
-        (subst (λ (q : ℕ). knowledge es .past q x ≡ true) (w ∙ ap who (sym (b′ .1))) y)
+        (rw (w ∙ ap who (sym (b′ .1))) at y)
     go (inr a′) (inr b′) ih =
         at-older h es j x (at-low b′) ∙ ih a′ b′ (sym (at-older h es i x (at-low a′)) ∙ z)
 
@@ -211,7 +211,7 @@ known-carried (got r k ∷ es) n {i} {j} {p} {q} {m} x f l a b z =
         at-newest (got r k) es j x (c .0)
         ∙ either-l (both (eqb r r) (knowledge es .before k x)) (knowledge es .past r x)
         (both-i (eqb r r) (knowledge es .before k x) (eqb-refl r)
-        (subst (λ (v : ℕ). knowledge es .before v x ≡ true) e (known-before es n x f (old-cast a) y)))
+        (rw e at (known-before es n x f (old-cast a) y)))
     go (inr c) ih = at-older (got r k) es j x (at-low c) ∙ ih c y
 
 -- so along every chain
@@ -239,7 +239,7 @@ weak-up (inr p) = inr (precedes-up p)
 
 -- followed by an edge
 weak-then : {es : List Event} {i j k : ℕ} → Weak es i j → Precedes es j k → Precedes es i k
-weak-then {es} {i} {j} {k} (inl e) p = subst (λ (z : ℕ). Precedes es z k) (sym e) p
+weak-then {es} {i} {j} {k} (inl e) p = rw e p
 weak-then (inr q) p = chain q p
 
 -- the multicast of x is, or precedes, an event of p

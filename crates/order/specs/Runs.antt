@@ -30,7 +30,7 @@ use Rattle.order.specs.Knowledge.{knowledge, closed-fresh}
 use Rattle.order.specs.Precedence.{Formed, Newest, at-cases, no-event, old-cast, cast-low}
 use Rattle.order.specs.Counters.{OneMore}
 use Rattle.order.specs.Multicast.{one-more, meaning-multicast, quiet-multicast, multicast-logs, multicast-count}
-use Rattle.order.specs.Cascade.{MeaningIn, MeaningOf, QuietIn, QuietOf, Ordered, Cascading, cascading-all}
+use Rattle.order.specs.Cascade.{MeaningIn, MeaningOf, QuietIn, QuietOf, Cascading, cascading-all}
 
 -- ---- the invariant of a run
 -- a state and its history
@@ -108,7 +108,8 @@ whole-after s t es e d o q w = record {
   sound = d;
   meaning = o;
   quiet = q;
-  formed = rw (ap (λ (v : Messages). v .total) e) (gained-keeps (Formed (s count)) (λ _ _ _ h. h) (s size) s t es (w .formed));
+  formed = rw (ap (λ (v : Messages). v .total) e)
+      (gained-keeps (Formed (s count)) (λ _ _ _ h. h) (s size) s t es (w .formed));
   senders = λ i q m a. ap (λ (v : Messages). v .sender m) e
       ∙ w .senders i q m (old-sent s t es a);
 }
@@ -177,7 +178,8 @@ whole-step s es (multicasts p groups) e w =
       meaning = rw none (meaning-multicast s es p groups (w .meaning) (a .process));
       quiet = quiet-multicast s es p groups (w .meaning) (w .quiet);
       formed =
-          rw (multicast-count s p groups) (gained-keeps (Formed (suc (s count))) (λ _ _ _ h. h) (s size) s t (sent p (s count) ∷ es)
+          rw (multicast-count s p groups)
+          (gained-keeps (Formed (suc (s count))) (λ _ _ _ h. h) (s size) s t (sent p (s count) ∷ es)
           (refl, w .formed));
       senders = λ i q m b.
           multicast-senders s es p groups w i q m (old-sent s t (sent p (s count) ∷ es) b);
