@@ -160,6 +160,11 @@ module _ (setup : List ℕ) (items : List Item) (ok : setup-refusal setup ≡ 0)
   reached-settle-bound b =
       omega (arith, ended end b sound-end .few, few)
 
+  -- so at most 33,792
+  pub reached-settle-most : (b : ℕ)
+      → arrivals (settle (run on-states (started setup) items .now) b .ending) ≤ 33792
+  reached-settle-most b = omega (arith, ended end b sound-end .few, reached-low)
+
   -- a settle with at least 33,792 arrivals says done, without the trust rule
   pub reached-settle-done : (b : ℕ) → 33792 ≤ b
       → SaysDone (settle (run on-states (started setup) items .now) b .ending)

@@ -113,7 +113,7 @@ settle-related-runs r b h =
     b 0 r (written r) (record { same = refl; sound = h })
 
 -- it is the settle of what there is now
-settle-now : {S : Type 0} (e : Engine S) (r : Run S) (b : ℕ)
+pub settle-now : {S : Type 0} (e : Engine S) (r : Run S) (b : ℕ)
     → Alike (λ t s. t .now ≡ s) (settle-run e r b)
     (settle-from (λ s. lowest (e .reads s)) (λ s k m q p. e .does s (arrives k m q p)) b 0 (r .now))
 settle-now {S} e r b =
