@@ -146,9 +146,9 @@ r₂ = act on-states r₁ (arriving 0 0 0 1)
 abbrev r₃ : Run State
 r₃ = act on-states r₂ (given (5 ∷ 0 ∷ 0 ∷ 0 ∷ 0 ∷ 0 ∷ 0 ∷ 0 ∷ []))
 
--- after the trust step
+-- after all of them
 abbrev r₄ : Run State
-r₄ = act on-states r₃ (given (4 ∷ 1 ∷ 2 ∷ 0 ∷ 0 ∷ 0 ∷ 0 ∷ 0 ∷ []))
+r₄ = run on-states (started pair) crashing
 
 -- both trust 1, which is up at the end and of the only group
 abbrev Both : State → Type 0
