@@ -23,7 +23,7 @@ use Rattle.effects.specs.Views.{Messages, messages, Process, process, Scene, sc
 use Rattle.effects.specs.Cascade.{fifo-delivered, causal-delivered, fifo-started, fifo-started-here, fifo-started-there, causal-one-here, causal-one-there, fifo-middle, fifo-middle-still, fifo-one-scene, fifo-one-still, fifo-one-there}
 use Rattle.order.specs.Knowledge.{Knowledge, learn, knowledge}
 use Rattle.order.specs.Counters.{counted, all-of, Counting, counting-got, counter-here, counter-there}
-use Rattle.order.specs.Logs.{at-here, at-else, FifoLogOf, fifo-log-more, CausalLog, causal-log-fifo, causal-log-more, Waits, waits, Stuck, Quiet}
+use Rattle.order.specs.Logs.{at-here, at-else, FifoLogOf, fifo-log-more, CausalLogOf, causal-log-fifo, causal-log-more, Waits, waits, Stuck, Quiet}
 
 -- ---- the logs of a state
 -- "A process has FIFO-delivered or causally delivered exactly the messages in its log of that name"
@@ -40,7 +40,7 @@ pub record Means (w : Messages) (k : Knowledge) (p : ℕ) (r : Process) : Type 0
   pub counters : (g q : ℕ) → r .counter g q ≡ counted w (k .past p) q g
   pub sequences : (g : ℕ) → r .sequence g ≡ all-of w p g
   pub fifo-log : FifoLogOf w r
-  pub causal-log : CausalLog w (k .before) r
+  pub causal-log : CausalLogOf w (k .before) r
 
 -- of the messages and all processes
 pub record Meaning (n : ℕ) (w : Messages) (ps : ℕ → Process) (k : Knowledge) : Type 0 where
@@ -96,7 +96,7 @@ module _ (s : State) (p i : ℕ) where
       neither false b z = (refl, z)
 
       found : (q : ℕ) × (q < s size) × (fits s p (s (fifo p i)) q ≡ false)
-          → Waits (s size) (messages s) (process s p) (s (fifo p i))
+          → Waits (s size) (messages s) (s (group p)) (λ q. s (delivered p q)) (s (fifo p i))
       found (q, h, z) =
           let d = neither (eqb q (s (sender x))) (leb (s (stamp x (s (group p)) q)) (s (delivered p q))) z in
           waits q h (eqb-false q (s (sender x)) (d .0))
@@ -146,7 +146,7 @@ module _ (s : State) (es : List Event) (p i : ℕ) (hi : i < s (fifo-length p)) 
           sequences = mine .sequences;
           fifo-log = mine .fifo-log;
           causal-log =
-              causal-log-more (o .counting) (mine .fifo-log) (mine .causal-log) i hi (d .outside) (d .free)
+              causal-log-more (process s p) (o .counting) (mine .fifo-log) (mine .causal-log) i hi (d .outside) (d .free)
               first;
         }))
         (λ x n. rw (causal-one-there s p i x n) (record {
@@ -173,7 +173,7 @@ meaning-fifo s es p m y hm tm o = record {
         counters = o .each p .counters;
         sequences = o .each p .sequences;
         fifo-log = fifo-log-more (o .counting) (o .each p .fifo-log) m hm tm (y .outside) (y .turn);
-        causal-log = causal-log-fifo m (o .each p .causal-log);
+        causal-log = causal-log-fifo (process s p) m (o .each p .causal-log);
       }))
       (λ x n. rw (fifo-started-there s p m x n) (o .each x));
 }

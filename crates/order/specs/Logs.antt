@@ -201,21 +201,25 @@ module _ {s : ℕ} {w : Messages} {k : Knowledge} {g n : ℕ} {log next : ℕ �
         (prefix-more c (o .prefix) m hm tm out earlier);
   }
 
--- ---- the causal log
-pub record CausalLog (w : Messages) (before : ℕ → ℕ → Bool) (r : Process) : Type 0 where
-  pub in-fifo : (i : ℕ) → i < r .causal-length → In (r .fifo-length) (r .fifo) (r .causal i)
-  pub once : (i j : ℕ) → i < j → j < r .causal-length → r .causal i ≢ r .causal j
+-- ---- the causal log, beside the FIFO log
+pub record CausalLog (w : Messages) (before : ℕ → ℕ → Bool) (g k : ℕ) (fifo : ℕ → ℕ) (n : ℕ) (log del : ℕ → ℕ)
+    : Type 0 where
+  pub in-fifo : (i : ℕ) → i < n → In k fifo (log i)
+  pub once : (i j : ℕ) → i < j → j < n → log i ≢ log j
   -- what is before a message, and to the group, stands ahead of it
-  pub order : (i x : ℕ) → i < r .causal-length → before (r .causal i) x ≡ true → x ≢ r .causal i
-      → To w (r .group) x
-      → In i (r .causal) x
-  pub prefix : Prefix 0 w (r .group) (r .causal-length) (r .causal) (r .delivered)
+  pub order : (i x : ℕ) → i < n → before (log i) x ≡ true → x ≢ log i → To w g x → In i log x
+  pub prefix : Prefix 0 w g n log del
+
+-- of a process
+abbrev pub CausalLogOf : Messages → (ℕ → ℕ → Bool) → Process → Type 0
+CausalLogOf w before r =
+    CausalLog w before (r .group) (r .fifo-length) (r .fifo) (r .causal-length) (r .causal) (r .delivered)
 
 -- a FIFO delivery does not concern it
-pub causal-log-fifo : {w : Messages} {before : ℕ → ℕ → Bool} {r : Process} (m : ℕ) → CausalLog w before r
-    → CausalLog w before (fifo-delivered w r m)
+pub causal-log-fifo : {w : Messages} {before : ℕ → ℕ → Bool} (r : Process) (m : ℕ) → CausalLogOf w before r
+    → CausalLogOf w before (fifo-delivered w r m)
 unfolding fifo-delivered
-causal-log-fifo {w} {before} {r} m o = record {
+causal-log-fifo r m o = record {
   in-fifo = λ i h. in-longer (r .fifo-length) (r .fifo) m (o .in-fifo i h);
   once = o .once;
   order = o .order;
@@ -223,12 +227,12 @@ causal-log-fifo {w} {before} {r} m o = record {
 }
 
 -- m of the FIFO log is outside the causal log, and waits for a message of another sender q
-pub data Waits (n : ℕ) (w : Messages) (r : Process) (m : ℕ) : Type 0 where
-  waits : (q : ℕ) → q < n → q ≢ w .sender m → r .delivered q < w .stamp m (r .group) q → Waits n w r m
+pub data Waits (n : ℕ) (w : Messages) (g : ℕ) (del : ℕ → ℕ) (m : ℕ) : Type 0 where
+  waits : (q : ℕ) → q < n → q ≢ w .sender m → del q < w .stamp m g q → Waits n w g del m
 
 -- m is in the causal log, or waits
 abbrev pub Stuck : ℕ → Messages → Process → ℕ → Type 0
-Stuck n w r m = In (r .causal-length) (r .causal) m ⊎ Waits n w r m
+Stuck n w r m = In (r .causal-length) (r .causal) m ⊎ Waits n w (r .group) (r .delivered) m
 
 -- nothing is left to deliver causally
 abbrev pub Quiet : ℕ → Messages → Process → Type 0
@@ -237,8 +241,8 @@ Quiet n w r = (i : ℕ) → i < r .fifo-length → Stuck n w r (r .fifo i)
 -- The causal delivery of item i of the FIFO log, the earliest that can be delivered. All that is before it,
 -- and to the group, is in the causal log already: of another sender, by del; of the same one, since it stands
 -- earlier in the FIFO log and could be delivered too. This is the only use of "earliest".
-module _ {n : ℕ} {w : Messages} {k : Knowledge} {r : Process} (c : Counting n w k) (f : FifoLogOf w r)
-    (o : CausalLog w (k .before) r) (i : ℕ) (hi : i < r .fifo-length)
+module _ {n : ℕ} {w : Messages} {k : Knowledge} (r : Process) (c : Counting n w k) (f : FifoLogOf w r)
+    (o : CausalLogOf w (k .before) r) (i : ℕ) (hi : i < r .fifo-length)
     (out : ¬ In (r .causal-length) (r .causal) (r .fifo i))
     (free : (q : ℕ) → q < n → q ≢ w .sender (r .fifo i) → w .stamp (r .fifo i) (r .group) q ≤ r .delivered q)
     (first : (j : ℕ) → j < i → Stuck n w r (r .fifo j)) where
@@ -286,7 +290,7 @@ module _ {n : ℕ} {w : Messages} {k : Knowledge} {r : Process} (c : Counting n 
           ))
 
   -- the log with it is a causal log again
-  pub causal-log-more : CausalLog w (k .before) (causal-delivered w r (r .fifo i))
+  pub causal-log-more : CausalLogOf w (k .before) (causal-delivered w r (r .fifo i))
   unfolding causal-delivered
   causal-log-more = record {
     in-fifo =
@@ -309,20 +313,6 @@ module _ {n : ℕ} {w : Messages} {k : Knowledge} {r : Process} (c : Counting n 
   }
 
 -- ---- a multicast concerns no log
--- r with other counters and sequence counts, which the logs do not look at
-abbrev pub with-counts : Process → (ℕ → ℕ → ℕ) → (ℕ → ℕ) → Process
-with-counts r counter sequence = record {
-  group = r .group;
-  fifo-length = r .fifo-length;
-  fifo = r .fifo;
-  causal-length = r .causal-length;
-  causal = r .causal;
-  next = r .next;
-  delivered = r .delivered;
-  counter = counter;
-  sequence = sequence;
-}
-
 module _ {s : ℕ} {w : Messages} {k : Knowledge} {p groups : ℕ} {w′ : Messages} (c : Counting s w k)
     (x : OneMore w k p groups w′) (r : Process) (f : FifoLogOf w r) where
   pub fifo-log-sent : FifoLogOf w′ r
@@ -339,13 +329,12 @@ module _ {s : ℕ} {w : Messages} {k : Knowledge} {p groups : ℕ} {w′ : Messa
   }
 
   -- what is in the causal log is an old message
-  causal-old : CausalLog w (k .before) r → (i : ℕ) → i < r .causal-length → r .causal i < w .total
+  causal-old : CausalLogOf w (k .before) r → (i : ℕ) → i < r .causal-length → r .causal i < w .total
   causal-old o i h = elim (o .in-fifo i h) [ in-at j hj e ↦ rw e at (f .old j hj) ]
 
   -- nor a causal log
-  pub causal-log-sent : (cs : ℕ → ℕ → ℕ) (bs : ℕ → ℕ) → CausalLog w (k .before) r
-      → CausalLog w′ (learn (sent p (w .total)) k .before) (with-counts r cs bs)
-  causal-log-sent cs bs o = record {
+  pub causal-log-sent : CausalLogOf w (k .before) r → CausalLogOf w′ (learn (sent p (w .total)) k .before) r
+  causal-log-sent o = record {
     in-fifo = o .in-fifo;
     once = o .once;
     order = λ i y h b ne t.
@@ -357,13 +346,13 @@ module _ {s : ℕ} {w : Messages} {k : Knowledge} {p groups : ℕ} {w′ : Messa
   }
 
   -- and what waited still waits
-  pub quiet-sent : (cs : ℕ → ℕ → ℕ) (bs : ℕ → ℕ) → Quiet s w r → Quiet s w′ (with-counts r cs bs)
-  quiet-sent cs bs z i h = go (z i h)
+  pub quiet-sent : Quiet s w r → Quiet s w′ r
+  quiet-sent z i h = go (z i h)
     where
       hi : r .fifo i < w .total
       hi = f .old i h
 
-      go : Stuck s w r (r .fifo i) → Stuck s w′ (with-counts r cs bs) (r .fifo i)
+      go : Stuck s w r (r .fifo i) → Stuck s w′ r (r .fifo i)
       go (inl a) = inl a
       go (inr (waits q hq ne lt)) =
           inr (waits q hq (λ e. ne (e ∙ x .old-sender (r .fifo i) hi))

@@ -82,17 +82,14 @@ module _ (s : State) (es : List Event) (p groups : ℕ) (o : MeaningOf s es) whe
           ∙ sym (all-more (o .counting) one-more r g);
       fifo-log = fifo-log-sent (o .counting) one-more (own s r) (o .each r .fifo-log);
       causal-log =
-          causal-log-sent (o .counting) one-more (own s r) (o .each r .fifo-log) (own (multicast s p groups) r .counter)
-          (own (multicast s p groups) r .sequence) (o .each r .causal-log);
+          causal-log-sent (o .counting) one-more (own s r) (o .each r .fifo-log) (o .each r .causal-log);
     };
   }
 
   -- and nothing is left to deliver
   pub quiet-multicast : QuietOf s → QuietOf (multicast s p groups)
   unfolding multicast posted numbered stamped raised put with-tables
-  quiet-multicast z r =
-      quiet-sent (o .counting) one-more (own s r) (o .each r .fifo-log) (own (multicast s p groups) r .counter)
-      (own (multicast s p groups) r .sequence) (z r)
+  quiet-multicast z r = quiet-sent (o .counting) one-more (own s r) (o .each r .fifo-log) (z r)
 
 -- no causal log grows
 pub multicast-logs : (s : State) (p groups r : ℕ) → multicast s p groups (causal-length r) ≡ s (causal-length r)

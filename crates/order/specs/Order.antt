@@ -15,17 +15,17 @@ use Rattle.world.specs.World.{count, group, counter, sequence, next, delivered,
 use Rattle.world.specs.Machine.{addressed}
 use Rattle.world.specs.Setup.{setup-refusal}
 use Rattle.world.specs.History.{Event, sent, At, Before, Run, Item, on-states, run, started}
-use Rattle.effects.specs.Views.{Messages, messages, Process}
+use Rattle.effects.specs.Views.{Messages, messages, Process, process}
 use Rattle.order.specs.Knowledge.{Knowledge, knowledge}
 use Rattle.order.specs.Precedence.{Cast, cast-at, cast-there, precedes-before, before-precedes}
 use Rattle.order.specs.Counters.{To, of-to, of, to, counted, all-of, Counting, sender-before}
-use Rattle.order.specs.Logs.{FifoLogOf, CausalLog, waits, Stuck, Quiet}
+use Rattle.order.specs.Logs.{FifoLogOf, CausalLogOf, waits, Stuck, Quiet}
 use Rattle.order.specs.Cascade.{Fifo, Causal, MeaningOf}
 use Rattle.order.specs.Runs.{Whole, whole-started, whole-run}
 
 -- ---- conclusion 1 from right to left, over the views
-module _ {n : ℕ} {w : Messages} {k : Knowledge} {r : Process} (c : Counting n w k) (f : FifoLogOf w r)
-    (o : CausalLog w (k .before) r) (quiet : Quiet n w r) where
+module _ {n : ℕ} {w : Messages} {k : Knowledge} (r : Process) (c : Counting n w k) (f : FifoLogOf w r)
+    (o : CausalLogOf w (k .before) r) (quiet : Quiet n w r) where
   -- all that is before m and to the group is in the FIFO log
   abbrev PastIn : ℕ → Type 0
   PastIn m = (x : ℕ) → k .before m x ≡ true → x ≢ m → To w (r .group) x → In (r .fifo-length) (r .fifo) x
@@ -129,7 +129,7 @@ module _ {r : Run State} (w : Whole r) (p : ℕ) where
       → Causal (r .now) p m
   past-causal m f all =
       let o = w .meaning .each p in
-      all-delivered (w .meaning .counting) (o .fifo-log) (o .causal-log) (w .quiet p) m f
+      all-delivered (process (r .now) p) (w .meaning .counting) (o .fifo-log) (o .causal-log) (w .quiet p) m f
       (λ x b ne t. all x (before-precedes (r .seen) (r .now count) (w .formed) x m b ne) t)
 
   -- conclusion 2: no causal log holds a message twice
