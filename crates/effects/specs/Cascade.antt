@@ -1,9 +1,9 @@
 -- What the cascade at p leaves as it was, and what each of its parts writes. The causal deliveries write p's
 -- causal log, del and counters; a FIFO delivery besides these p's FIFO log, next of the sender, and OKs from
 -- p. Assumes nothing.
-use mathlib.Core.Path.{_≡_, refl, sym, ap, ap₂, _∙_}
+use mathlib.Core.Path.{_≡_, refl, sym, ap, ap₂, _∙_, subst₂}
 use mathlib.Core.Bool.{Bool, true, false, _&&_}
-use mathlib.Core.Logic.{_⊎_, inl, inr, _≢_}
+use mathlib.Core.Logic.{_≢_}
 use Prim.Native.Nat.{ℕ, zero, suc, _+_, _-_, _≤_, _<_, max}
 use native.Mathlib.Decide.{ℕ-discrete}
 use native.Mathlib.Nat.{not-suc-le-zero}
@@ -277,17 +277,14 @@ raised t p m =
     ∙ pick-yes _ (t (next p (t (sender m)))) (eqb-refl (t (sender m)))
 
 -- next of any process after a turn: as it was, or p's of m's sender, one more
-pub next-cases : (t : State) (p m r q : ℕ) → (fifo-one t p m (next r q) ≡ t (next r q))
-    ⊎ ((p ≡ r) × (t (sender m) ≡ q) × (fifo-one t p m (next r q) ≡ t (next r q) + 1))
-next-cases t p m r q =
-    at-or-off p (λ z. (fifo-one t p m (next z q) ≡ t (next z q))
-    ⊎ ((p ≡ z) × (t (sender m) ≡ q) × (fifo-one t p m (next z q) ≡ t (next z q) + 1)))
-    (at-or-off (t (sender m)) (λ z. (fifo-one t p m (next p z) ≡ t (next p z))
-    ⊎ ((p ≡ p) × (t (sender m) ≡ z) × (fifo-one t p m (next p z) ≡ t (next p z) + 1)))
-    (inr (refl, refl, raised t p m))
-    (λ z n. inl (ap (λ (v : Front). v .next z) (fifo-one-front t p m)
-    ∙ pick-no _ (t (next p z)) (ne-eqb (t (sender m)) z n))) q)
-    (λ z n. inl (ap (λ (v : Process). v .next q) (fifo-one-there t p m z n))) r
+pub next-cases : (t : State) (p m : ℕ) (P : ℕ → ℕ → ℕ → Type 0) → ((r q : ℕ) → P r q (t (next r q)))
+    → P p (t (sender m)) (t (next p (t (sender m))) + 1) → (r q : ℕ) → P r q (fifo-one t p m (next r q))
+next-cases t p m P stays new r q =
+    at-or-off p (λ z. P z q (fifo-one t p m (next z q)))
+    (at-or-off (t (sender m)) (λ z. P p z (fifo-one t p m (next p z))) (rw (raised t p m) new)
+    (λ z n. rw (ap (λ (v : Front). v .next z) (fifo-one-front t p m)
+    ∙ pick-no _ (t (next p z)) (ne-eqb (t (sender m)) z n)) (stays p z)) q)
+    (λ z n. rw (ap (λ (v : Process). v .next q) (fifo-one-there t p m z n)) (stays z q)) r
 
 -- ---- the OKs of a turn, as facts
 -- p sends an OK for x: it holds x, of the same sender as m, and its number is next as it is now
@@ -352,13 +349,13 @@ module _ (t : State) (p m x : ℕ) where
   ]
 
   -- a letter of the turn is a new OK, or flies as it did
-  pub letter-cases : (k r : ℕ)
-      → ((2 ≡ k) × (p ≡ r) × NewOk t p m x × (fifo-one t p m (flight x k r) ≡ addressees t x))
-      ⊎ (fifo-one t p m (flight x k r) ≡ t (flight x k r))
-  letter-cases k r = elim (after-oks k r) [
-    | ok a b l d e ↦ inl (a, b, owed-facts (omega (arith, mid-count)) d, e ∙ mid-to)
-    | old e f ↦ inr (e ∙ ap (λ (g : ℕ → ℕ → ℕ → ℕ). g x k r)
-        (causal-all-letters (fifo-started t p m) p ∙ fifo-started-letters t p m))
+  pub letter-cases : (P : ℕ → ℕ → ℕ → Type 0) → ((k r : ℕ) → P k r (t (flight x k r)))
+      → (NewOk t p m x → P 2 p (addressees t x)) → (k r : ℕ) → P k r (fifo-one t p m (flight x k r))
+  letter-cases P same new k r = elim (after-oks k r) [
+    | ok a b l d e ↦ rw (e ∙ mid-to)
+        (subst₂ (λ (j q : ℕ). P j q (addressees t x)) a b (new (owed-facts (omega (arith, mid-count)) d)))
+    | old e f ↦ rw (e ∙ ap (λ (g : ℕ → ℕ → ℕ → ℕ). g x k r)
+        (causal-all-letters (fifo-started t p m) p ∙ fifo-started-letters t p m)) (same k r)
   ]
 
 -- ---- in turn
@@ -367,22 +364,19 @@ abbrev pub Near : State → ℕ → ℕ → Type 0
 Near s x r = s (number x (s (group r))) ≤ s (next r (s (sender x)))
 
 module _ (t : State) (p m x r : ℕ) where
-  -- a turn leaves its number
-  pub turn-number : fifo-one t p m (number x (fifo-one t p m (group r))) ≡ t (number x (t (group r)))
-  turn-number = ap (λ (s : Still). s .ground .messages .number x (s .ground .group r)) (fifo-one-still t p m)
-
-  -- next of its sender, as it is after the turn
-  pub turn-next : fifo-one t p m (next r (fifo-one t p m (sender x))) ≡ fifo-one t p m (next r (t (sender x)))
-  turn-next =
-      ap (λ (q : ℕ). fifo-one t p m (next r q))
-      (ap (λ (s : Still). s .ground .messages .sender x) (fifo-one-still t p m))
+  -- after a turn it depends on next alone
+  pub turn-near : Near (fifo-one t p m) x r
+      ≡ (t (number x (t (group r))) ≤ fifo-one t p m (next r (t (sender x))))
+  turn-near =
+      ap (λ (s : Still). s .ground .messages .number x (s .ground .group r)
+      ≤ fifo-one t p m (next r (s .ground .messages .sender x))) (fifo-one-still t p m)
 
   -- what was in turn or past it still is
   pub near-on : Near t x r → Near (fifo-one t p m) x r
-  near-on h = elim (next-cases t p m r (t (sender x))) [
-    | inl a ↦ omega (arith, turn-number, turn-next, a)
-    | inr a ↦ omega (arith, turn-number, turn-next, a .2)
-  ]
+  near-on h =
+      rw turn-near (next-cases t p m
+      (λ z q v. t (number x (t (group z))) ≤ t (next z q) → t (number x (t (group z))) ≤ v) (λ _ _ l. l)
+      (λ l. omega arith) r (t (sender x)) h)
 
 -- a message with a new OK was out of turn before the delivery
 pub ok-far : (t : State) (p m x : ℕ) → NewOk t p m x → t (next p (t (sender x))) < t (number x (t (group p)))
@@ -391,11 +385,5 @@ ok-far t p m x o = omega (arith, o .turn, ap (λ (q : ℕ). t (next p q)) (o .of
 -- and is in turn after it
 pub ok-near : (t : State) (p m x : ℕ) → NewOk t p m x → Near (fifo-one t p m) x p
 ok-near t p m x o =
-    omega (
-      arith,
-      o .turn,
-      turn-number t p m x p,
-      turn-next t p m x p,
-      raised t p m,
-      ap (λ (q : ℕ). fifo-one t p m (next p q)) (o .of),
-    )
+    rw (turn-near t p m x p)
+    (omega (arith, o .turn, raised t p m, ap (λ (q : ℕ). fifo-one t p m (next p q)) (o .of)))

@@ -130,13 +130,14 @@ turn-once t p m = record {
   grows = omega (arith, count-is);
   held-on = λ x r _ h. held-is r x ∙ h;
   near-on = λ x r _. near-on t p m x r;
-  new-letter = λ k x q u f. elim (letter-cases t p m x k q) [
-    | inr c ↦ inl (rw c at f)
-    | inl c ↦ inr (subst₂ (λ (j o : ℕ). (¬ Spent t j x o) × Spent (fifo-one t p m) j x o) (c .0) (c .1) (
-      (λ z. absurd (omega (arith, z .1 .1, ok-far t p m x (c .2)))),
-      (omega (arith, count-is, c .2 .low), (held-is p x ∙ c .2 .has, ok-near t p m x (c .2))),
-    ))
-  ];
+  new-letter = λ k x q u.
+      letter-cases t p m x
+      (λ k q v. bit v u ≡ true → Fly t x k q u ⊎ ((¬ Spent t k x q) × Spent (fifo-one t p m) k x q))
+      (λ _ _ f. inl f)
+      (λ c _. inr (
+        (λ z. absurd (omega (arith, z .1 .1, ok-far t p m x c))),
+        (omega (arith, count-is, c .low), (held-is p x ∙ c .has, ok-near t p m x c)),
+      )) k q;
 }
   where
     count-is : fifo-one t p m count ≡ t count
