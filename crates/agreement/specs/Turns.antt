@@ -40,10 +40,6 @@ module _ (t : State) (p m : ℕ) (y : Ready t p m) (es : List Event) (o : Meanin
   turn-to : (x r : ℕ) → addressed (fifo-one t p m) x r ≡ addressed t x r
   turn-to x r = ap (λ (s : Still). bit (s .ground .messages .mask x) (s .ground .group r)) same
 
-  -- its sender
-  turn-sender : (x : ℕ) → fifo-one t p m (sender x) ≡ t (sender x)
-  turn-sender x = ap (λ (s : Still). s .ground .messages .sender x) same
-
   -- the number of processes
   turn-size : fifo-one t p m size ≡ t size
   turn-size = ap (λ (s : Still). s .ground .size) same
@@ -102,7 +98,7 @@ module _ (t : State) (p m : ℕ) (y : Ready t p m) (es : List Event) (o : Meanin
   turn-progress = record {
     same-size = turn-size;
     same-to = λ x r _. turn-to x r;
-    same-sender = λ x _. turn-sender x;
+    same-sender = λ x _. ap (λ (s : Still). s .ground .messages .sender x) same;
     once = turn-once t p m;
     mark-on = λ x r u _ _ z. rw (turn-marks u x) z;
     down-on = λ r d e. d (sym (ap (λ (s : Still). s .ground .up r) same) ∙ e);

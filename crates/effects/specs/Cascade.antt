@@ -21,11 +21,6 @@ use Rattle.world.specs.Local.{other-away, causal-one-away, appended-away, raise
 use Rattle.effects.specs.Views.{process-local, Messages, messages, Process, process, Scene, scene, Ground, ground, Still, still, letters}
 
 -- ---- what no part writes
--- all causal deliveries at p
-causal-all-still : (s : State) (p : ℕ) → still (causal-all s p) ≡ still s
-unfolding causal-one merge with-tables put
-causal-all-still s p = causal-all-keeps still p (λ t i. refl) s
-
 -- the OKs are letters, and nothing else
 oks-still : (s : State) (p q k : ℕ) → still (send-oks s p q k) ≡ still s
 unfolding put
@@ -103,16 +98,6 @@ fifo-started-there s p m r n = process-local s (fifo-started s p m) r (λ c o.
     let a = other-away p r c o n in
     raised-next-away p (appended s p m) (s (sender m)) c a ∙ appended-away p s m c a)
 
--- and so is what no part writes
-fifo-started-still : (s : State) (p m : ℕ) → still (fifo-started s p m) ≡ still s
-unfolding raised-next appended put
-fifo-started-still s p m = refl
-
--- and so are the letters
-pub fifo-started-letters : (s : State) (p m : ℕ) → letters (fifo-started s p m) ≡ letters s
-unfolding raised-next appended put
-fifo-started-letters s p m = refl
-
 -- ---- causal deliveries
 pub causal-one-here : (s : State) (p i : ℕ)
     → process (causal-one s p i) p ≡ causal-delivered (messages s) (process s p) (s (fifo p i))
@@ -138,11 +123,6 @@ pub causal-one-there : (s : State) (p i r : ℕ) → p ≢ r → process (causal
 causal-one-there s p i r n =
     process-local s (causal-one s p i) r (λ c o. causal-one-away p s i c (other-away p r c o n))
 
--- all of them send no letter
-causal-all-letters : (s : State) (p : ℕ) → letters (causal-all s p) ≡ letters s
-unfolding causal-one merge with-tables put
-causal-all-letters s p = causal-all-keeps letters p (λ t i. refl) s
-
 -- what of p's own record the causal deliveries leave: the FIFO side
 pub record Front : Type 0 where
   pub group : ℕ
@@ -157,11 +137,6 @@ front-of r = record { group = r .group; fifo-length = r .fifo-length; fifo = r .
 -- of p in s
 abbrev pub front : State → ℕ → Front
 front s p = front-of (process s p)
-
--- they leave it
-causal-all-front : (s : State) (p : ℕ) → front (causal-all s p) p ≡ front s p
-unfolding causal-one merge with-tables put
-causal-all-front s p = causal-all-keeps (λ t. front t p) p (λ t i. refl) s
 
 -- ---- a turn: next may rise before the causal deliveries
 -- the state of a turn before its OKs
@@ -188,7 +163,13 @@ fifo-one-there s p m r n =
 
 -- the middle of a turn leaves what no part writes
 pub fifo-middle-still : (s : State) (p m : ℕ) → still (fifo-middle s p m) ≡ still s
-fifo-middle-still s p m = causal-all-still (fifo-started s p m) p ∙ fifo-started-still s p m
+unfolding causal-one merge with-tables raised-next appended put
+fifo-middle-still s p m = causal-all-keeps still p (λ t i. refl) (fifo-started s p m)
+
+-- and the letters
+fifo-middle-letters : (s : State) (p m : ℕ) → letters (fifo-middle s p m) ≡ letters s
+unfolding causal-one merge with-tables raised-next appended put
+fifo-middle-letters s p m = causal-all-keeps letters p (λ t i. refl) (fifo-started s p m)
 
 -- so does the turn
 pub fifo-one-still : (s : State) (p m : ℕ) → still (fifo-one s p m) ≡ still s
@@ -263,8 +244,9 @@ turned t p m = record {
 
 -- p's FIFO side in the middle of a turn
 pub fifo-middle-front : (t : State) (p m : ℕ) → front (fifo-middle t p m) p ≡ turned t p m
-unfolding fifo-delivered
-fifo-middle-front t p m = causal-all-front (fifo-started t p m) p ∙ ap front-of (fifo-started-here t p m)
+unfolding causal-one merge with-tables put fifo-delivered
+fifo-middle-front t p m =
+    causal-all-keeps (λ s. front s p) p (λ s i. refl) (fifo-started t p m) ∙ ap front-of (fifo-started-here t p m)
 
 -- and after it
 pub fifo-one-front : (t : State) (p m : ℕ) → front (fifo-one t p m) p ≡ turned t p m
@@ -354,8 +336,7 @@ module _ (t : State) (p m x : ℕ) where
   letter-cases P same new k r = elim (after-oks k r) [
     | ok a b l d e ↦ rw (e ∙ mid-to)
         (subst₂ (λ (j q : ℕ). P j q (addressees t x)) a b (new (owed-facts (omega (arith, mid-count)) d)))
-    | old e f ↦ rw (e ∙ ap (λ (g : ℕ → ℕ → ℕ → ℕ). g x k r)
-        (causal-all-letters (fifo-started t p m) p ∙ fifo-started-letters t p m)) (same k r)
+    | old e f ↦ rw (e ∙ ap (λ (g : ℕ → ℕ → ℕ → ℕ). g x k r) (fifo-middle-letters t p m)) (same k r)
   ]
 
 -- ---- in turn

@@ -206,22 +206,17 @@ record Delivering (p a : ℕ) (es : List Event) (t : State) : Type 0 where
   pub meaning : MeaningOf t (grown p a t es)
   pub start : a ≤ t (causal-length p)
 
--- the causal log of p is one longer
-causal-long : (s : State) (p i : ℕ) → causal-one s p i (causal-length p) ≡ s (causal-length p) + 1
-unfolding causal-delivered
-causal-long s p i = ap (λ (r : Process). r .causal-length) (causal-one-here s p i)
-
 -- all of them keep what the state means
 delivering-all : (p a : ℕ) (es : List Event) (s : State) → Delivering p a es s
     → Delivering p a es (causal-all s p)
-unfolding causal-all
+unfolding causal-all causal-delivered
 delivering-all p a es s =
     loop-keeps (λ u. u (fifo-length p)) (λ u. deliverable-at u p) (λ u. causal-one u p) (Delivering p a es)
     (λ t i hi e first m. record {
       meaning = rw (grown-one p a i t es (m .start))
           (meaning-causal t (grown p a t es) p i hi (deliverable-facts t p i e)
           (λ j l. stuck-facts t p j (first j l)) (m .meaning));
-      start = omega (arith, causal-long t p i, m .start);
+      start = omega (arith, ap (λ (r : Process). r .causal-length) (causal-one-here t p i), m .start);
     }) (s (fifo-length p) - s (causal-length p)) s
 
 -- ---- a turn of the cascade
