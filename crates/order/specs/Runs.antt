@@ -5,7 +5,6 @@
 use mathlib.Core.Path.{_≡_, refl, sym, ap, _∙_, subst}
 use mathlib.Core.Bool.{true}
 use mathlib.Core.List.{List, [], _∷_}
-use mathlib.Core.Logic.{_⊎_, inl, inr}
 use Prim.Native.Nat.{ℕ, suc, _-_, _<_}
 use native.Mathlib.Omega.{arith}
 use native.Mathlib.Nat.{not-suc-le-zero}
@@ -18,7 +17,7 @@ use Rattle.world.specs.Setup.{byte, fresh, setup-group, setup-refusal, made}
 use Rattle.world.specs.Machine.{cascade, multicast, leave, received, arrival, trust-set, crash}
 use Rattle.world.specs.Steps.{Step, multicasts, arrives, loses, trusts, crashes, malformed, accepted, step}
 use Rattle.world.specs.StepLaws.{accepted-multicast, accepted-arrival, accepted-trust}
-use Rattle.world.specs.History.{Event, sent, At, gained, on-states, Run, Item, taken, act, run, started}
+use Rattle.world.specs.History.{Event, sent, At, here, there, gained, on-states, Run, Item, taken, act, run, started}
 use Rattle.keeps.specs.Keeps.{fresh-sound, step-sound}
 use Rattle.effects.specs.Views.{Messages, messages, Process, Scene, scene, Still}
 use Rattle.effects.specs.Views.{process as own}
@@ -27,8 +26,7 @@ use Rattle.effects.specs.Events.{gained-keeps, grown-none, gained-none, gained-
 use Rattle.effects.specs.Runs.{act-keeps, run-keeps}
 use Rattle.effects.specs.Holding.{HeldTo, received-to, trusted-held}
 use Rattle.order.specs.Knowledge.{knowledge, closed-fresh}
-use Rattle.order.specs.Precedence.{Formed, Newest, at-cases, no-event, old-cast, cast-low}
-use Rattle.order.specs.Counters.{OneMore}
+use Rattle.order.specs.Precedence.{Formed, no-event, old-cast, cast-low}
 use Rattle.order.specs.Multicast.{one-more, meaning-multicast, quiet-multicast, multicast-logs, multicast-count}
 use Rattle.order.specs.Cascade.{MeaningIn, MeaningOf, QuietIn, QuietOf, Cascading, cascading-all}
 
@@ -153,17 +151,9 @@ module _ (s t : State) (es : List Event) (e : scene t ≡ scene s) where
 -- who multicast a message is its sender, after a multicast
 multicast-senders : (s : State) (es : List Event) (p groups : ℕ) → Whole (with-history s es) → (i q m : ℕ)
     → At (sent p (s count) ∷ es) i (sent q m) → multicast s p groups (sender m) ≡ q
-multicast-senders s es p groups w i q m a = go (at-cases a)
-  where
-    o : OneMore (messages s) (knowledge es) p groups (messages (multicast s p groups))
-    o = one-more s es p groups (w .meaning)
-
-    go : Newest (sent p (s count)) es i (sent q m) ⊎ At es i (sent q m) → multicast s p groups (sender m) ≡ q
-    go (inl b) =
-        let em : s count ≡ m = cc (b .1) in
-        let eq : p ≡ q = cc (b .1) in
-        rw em at (o .new-sender ∙ eq)
-    go (inr b) = o .old-sender m (cast-low es (w .formed) b) ∙ w .senders i q m b
+multicast-senders s es p groups w i q m (here h) = one-more s es p groups (w .meaning) .new-sender
+multicast-senders s es p groups w i q m (there a) =
+    one-more s es p groups (w .meaning) .old-sender m (cast-low es (w .formed) a) ∙ w .senders i q m a
 
 -- every accepted step keeps the invariant
 pub whole-step : (s : State) (es : List Event) (x : Step) → accepted s x ≡ true → Whole (with-history s es)
