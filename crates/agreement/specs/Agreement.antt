@@ -36,12 +36,10 @@ tally-below : (n k : ℕ) (f : ℕ → Bool) → k ≤ n → ((i : ℕ) → k �
     → tally n f ≡ tally k f
 unfolding tally
 tally-below zero k f h e = ap (λ (x : ℕ). tally x f) (let z : 0 ≡ k = omega arith in z)
-tally-below (suc n) k f h e =
-    go (ℕ-discrete k (suc n)) (λ l. tally-below n k f l (λ i a b. e i a (omega arith)))
-  where
-    go : Dec (k ≡ suc n) → (k ≤ n → tally n f ≡ tally k f) → tally (suc n) f ≡ tally k f
-    go (yes a) ih = ap (λ (x : ℕ). tally x f) (sym a)
-    go (no a) ih = rw (e n (omega arith) (omega arith)) (ih (omega arith))
+tally-below (suc n) k f h e = elim (ℕ-discrete k (suc n)) [
+  | yes a ↦ ap (λ (x : ℕ). tally x f) (sym a)
+  | no a ↦ rw (e n (omega arith) (omega arith)) (tally-below n k f (omega arith) (λ i x y. e i x (omega arith)))
+]
 
 -- the number of m in a group of its mask
 pub number-is : {n : ℕ} {w : Messages} {k : Knowledge} (c : Counting n w k) (m g : ℕ) → m < w .total

@@ -40,13 +40,12 @@ pub sum-falls : (n : ℕ) (f g : ℕ → ℕ) → ((i : ℕ) → i < n → f i �
     → sum n f < sum n g
 unfolding sum
 sum-falls zero f g h j l e = absurd (not-suc-le-zero l)
-sum-falls (suc n) f g h j l e = go (ℕ-discrete j n) (λ k. sum-falls n f g (λ i a. h i (omega arith)) j k e)
-  where
-    go : Dec (j ≡ n) → (j < n → sum n f < sum n g) → sum n f + f n < sum n g + g n
-    go (yes q) ih =
-        let e′ : f n < g n = rw q at e in
-        omega (arith, sum-mono n f g (λ i a. h i (omega arith)))
-    go (no q) ih = omega (arith, ih (omega arith), h n (omega arith))
+sum-falls (suc n) f g h j l e = elim (ℕ-discrete j n) [
+  | yes q ↦
+      let e′ : f n < g n = rw q at e in
+      omega (arith, sum-mono n f g (λ i a. h i (omega arith)))
+  | no q ↦ omega (arith, sum-falls n f g (λ i a. h i (omega arith)) j (omega arith) e, h n (omega arith))
+]
 
 -- ---- the potential
 -- A: the number of m's addressees

@@ -3,9 +3,9 @@
 -- agreement): a settle that says done leaves no letter between up processes, and keeps the trust rule of the
 -- list, its live processes and its trust sets. Assumes nothing.
 use mathlib.Core.Path.{_≡_, refl, sym, ap, subst, fun-ext}
-use mathlib.Core.Bool.{Bool, true, false}
+use mathlib.Core.Bool.{Bool, true}
 use mathlib.Core.List.{List}
-use mathlib.Core.Logic.{_⊎_, inl, inr}
+use mathlib.Core.Logic.{inl, inr}
 use Prim.Native.Nat.{ℕ, _≤_, _<_}
 use native.Mathlib.Omega.{arith}
 use lib.Dec.{eqb}
@@ -34,14 +34,13 @@ settled r b = settle-from (λ t. lowest (t .now)) (λ t k m q p. taken on-states
 -- nothing to move: no letter flies between two up processes
 calm : (s : State) → lowest s ≡ nothing → Calm s
 unfolding moves
-calm s e k m q p hk hm hq hp uq up-p = go (bool-cases (in-flight s k m q p))
-  where
-    go : (in-flight s k m q p ≡ true) ⊎ (in-flight s k m q p ≡ false) → in-flight s k m q p ≡ false
-    go (inr z) = z
-    go (inl z) = clash
-        (both-i (both (in-flight s k m q p) (is-up s q)) (is-up s p)
-        (both-i (in-flight s k m q p) (is-up s q) z (eq-eqb (s (up q)) 1 uq)) (eq-eqb (s (up p)) 1 up-p))
-        (rw e at (lowest-chosen s) k m q p hk hm hq hp)
+calm s e k m q p hk hm hq hp uq up-p = elim (bool-cases (in-flight s k m q p)) [
+  | inr z ↦ z
+  | inl z ↦ clash
+      (both-i (both (in-flight s k m q p) (is-up s q)) (is-up s p)
+      (both-i (in-flight s k m q p) (is-up s q) z (eq-eqb (s (up q)) 1 uq)) (eq-eqb (s (up p)) 1 up-p))
+      (rw e at (lowest-chosen s) k m q p hk hm hq hp)
+]
 
 -- ---- demand 3, for the run of a list of items
 pub record Demand3States (r : Run State) (items : List Item) : Type 0 where

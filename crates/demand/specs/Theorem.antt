@@ -21,7 +21,7 @@ use Rattle.world.specs.Setup.{setup-refusal}
 use Rattle.world.specs.Machine.{addressed}
 use Rattle.world.specs.Steps.{is-up}
 use Rattle.world.specs.Settle.{Ending, done, stopped}
-use Rattle.world.specs.Words.{gives, settled-words, settle-reply, log-words}
+use Rattle.world.specs.Words.{gives, settle-reply, log-words}
 use Rattle.world.specs.History.{Before, casts, Run, Item, on-states, on-words, run, started, TrustRule}
 use Rattle.world.specs.Demand.{CausalOrder, Agreed, AtMost, done-in, stopped-in, SaysDone, says-done, Demand3, Demand3Always}
 use Rattle.keeps.specs.Keeps.{run-sound, fresh-sound}

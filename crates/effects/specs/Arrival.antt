@@ -35,18 +35,15 @@ module _ (s : State) (k m q p : ℕ) where
       → ((x j o u : ℕ) → Fly (leave s k m q p) x j o u → P x j o u)
       → (x j o u : ℕ) → Fly s x j o u → P x j o u
   unfolding leave
-  leave-cases P it other x j o u z = go (other x j o u) (ℕ-discrete p u)
-    where
-      go : (Fly (leave s k m q p) x j o u → P x j o u) → Dec (p ≡ u) → P x j o u
-      go rest (yes d) =
-          put-at s (flight m k q) (flight x j o) (without (s (flight m k q)) p)
-          (λ v. (bit v u ≡ true → P x j o u) → P x j o u)
-          (λ e _. subst₂ (λ (y v : ℕ). P y j o v) (cc) d (subst₂ (λ (i r : ℕ). P m i r p) (cc) (cc) it))
-          (λ _ f. f z) rest
-      go rest (no d) = rest
-          (put-at s (flight m k q) (flight x j o) (without (s (flight m k q)) p) (λ v. bit v u ≡ true)
-          (λ e. without-other (s (flight m k q)) p u d ∙ rw e z)
-          (λ _. z))
+  leave-cases P it other x j o u z = elim (ℕ-discrete p u) [
+    | yes d ↦ put-at s (flight m k q) (flight x j o) (without (s (flight m k q)) p)
+        (λ v. (bit v u ≡ true → P x j o u) → P x j o u)
+        (λ e _. subst₂ (λ (y v : ℕ). P y j o v) (cc) d (subst₂ (λ (i r : ℕ). P m i r p) (cc) (cc) it))
+        (λ _ f. f z) (other x j o u)
+    | no d ↦ other x j o u
+        (put-at s (flight m k q) (flight x j o) (without (s (flight m k q)) p) (λ v. bit v u ≡ true)
+        (λ e. without-other (s (flight m k q)) p u d ∙ rw e z) (λ _. z))
+  ]
 
 -- ---- what an arrival before its cascade leaves
 module _ (s : State) (k m q p : ℕ) where

@@ -201,11 +201,8 @@ data Sent (s : State) (p q n x k r v : ℕ) : Type 0 where
 sent-more : {s : State} {p q n x k r v : ℕ} → (2 ≡ k → p ≡ r → n ≡ x → due s p q x ≡ false)
     → Sent s p q n x k r v → Sent s p q (suc n) x k r v
 sent-more f (ok a b l d e) = ok a b (omega arith) d e
-sent-more {s} {p} {q} {n} {x} {k} {r} f (old e g) = old e (λ a b l. go a b l (ℕ-discrete n x))
-  where
-    go : 2 ≡ k → p ≡ r → x < suc n → Dec (n ≡ x) → due s p q x ≡ false
-    go a b l (yes d) = f a b d
-    go a b l (no d) = g a b (omega arith)
+sent-more {n = n} {x = x} f (old e g) =
+    old e (λ a b l. elim (ℕ-discrete n x) [ yes d ↦ f a b d | no d ↦ g a b (omega arith) ])
 
 -- the OKs, one after the other
 oks-letters : (s : State) (p q n x k r : ℕ) → Sent s p q n x k r (send-oks s p q n (flight x k r))

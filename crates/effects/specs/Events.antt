@@ -57,13 +57,9 @@ pub gained-one : (n p : ℕ) (s t : State) (es : List Event) → p < n
     → gained n s t es ≡ grown p (s (causal-length p)) t es
 unfolding gained
 gained-one zero p s t es l h = absurd (not-suc-le-zero l)
-gained-one (suc n) p s t es l h = go (ℕ-discrete p n) (λ k. gained-one n p s t es k h)
-  where
-    go : Dec (p ≡ n) → (p < n → gained n s t es ≡ grown p (s (causal-length p)) t es)
-        → grown n (s (causal-length n)) t (gained n s t es) ≡ grown p (s (causal-length p)) t es
-    go (yes e) ih =
-        ap (grown n (s (causal-length n)) t) (gained-none n s t es (λ r k. h r (omega arith)))
-        ∙ ap (λ (x : ℕ). grown x (s (causal-length x)) t es) (sym e)
-    go (no e) ih =
-        ap (grown n (s (causal-length n)) t) (ih (omega arith))
-        ∙ grown-none n s t (grown p (s (causal-length p)) t es) (h n e)
+gained-one (suc n) p s t es l h = elim (ℕ-discrete p n) [
+  | yes e ↦ ap (grown n (s (causal-length n)) t) (gained-none n s t es (λ r k. h r (omega arith)))
+      ∙ ap (λ (x : ℕ). grown x (s (causal-length x)) t es) (sym e)
+  | no e ↦ ap (grown n (s (causal-length n)) t) (gained-one n p s t es (omega arith) h)
+      ∙ grown-none n s t (grown p (s (causal-length p)) t es) (h n e)
+]

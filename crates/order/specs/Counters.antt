@@ -255,11 +255,10 @@ module _ {n : ℕ} {w : Messages} {k : Knowledge} {p groups : ℕ} {w′ : Messa
 
   -- a set that has only old messages
   without-new : (f : ℕ → Bool) → ((x : ℕ) → f x ≡ true → x < w .total) → f (w .total) ≡ false
-  without-new f low = go (bool-cases (f (w .total)))
-    where
-      go : (f (w .total) ≡ true) ⊎ (f (w .total) ≡ false) → f (w .total) ≡ false
-      go (inl e) = absurd (omega (arith, low (w .total) e))
-      go (inr e) = e
+  without-new f low = elim (bool-cases (f (w .total))) [
+    | inl e ↦ absurd (omega (arith, low (w .total) e))
+    | inr e ↦ e
+  ]
 
   -- the counters on the messages are right after it
   pub counting-sent : p < n → Counting n w′ (learn (sent p (w .total)) k)

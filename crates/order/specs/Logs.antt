@@ -9,7 +9,7 @@ use Prim.Native.Nat.{ℕ, _+_, _≤_, _<_}
 use native.Mathlib.Omega.{arith}
 use native.Mathlib.Decide.{ℕ-discrete}
 use borrow.Author.Tests.{ne-eqb}
-use Rattle.base.specs.Tests.{le-or-lt, pick-yes, pick-no, eqb-refl}
+use Rattle.base.specs.Tests.{le-or-lt, pick-yes, pick-no, eqb-refl, at-or-off}
 use Rattle.base.specs.Count.{In, in-at, in-wider}
 use Rattle.world.specs.History.{sent}
 use Rattle.effects.specs.Views.{Messages, Process}
@@ -29,11 +29,10 @@ module _ (n : ℕ) (log : ℕ → ℕ) (m : ℕ) where
   -- an item is an old one, or the new one
   pub item-cases : (i : ℕ) → i < n + 1
       → ((i < n) × (at-place log n m i ≡ log i)) ⊎ ((i ≡ n) × (at-place log n m i ≡ m))
-  item-cases i h = go (ℕ-discrete n i)
-    where
-      go : Dec (n ≡ i) → ((i < n) × (at-place log n m i ≡ log i)) ⊎ ((i ≡ n) × (at-place log n m i ≡ m))
-      go (yes e) = inr (sym e, ap (at-place log n m) (sym e) ∙ at-here log n m)
-      go (no e) = inl (omega arith, at-else log n m i e)
+  item-cases i h = elim (ℕ-discrete n i) [
+    | yes e ↦ inr (sym e, ap (at-place log n m) (sym e) ∙ at-here log n m)
+    | no e ↦ inl (omega arith, at-else log n m i e)
+  ]
 
   -- each item has what the old ones and m have
   pub every-item : (P : ℕ → Type 0) → ((i : ℕ) → i < n → P (log i)) → P m → (i : ℕ) → i < n + 1
@@ -80,16 +79,13 @@ module _ {s : ℕ} {e : ℕ} {w : Messages} {k : Knowledge} {g n : ℕ} {log bou
     (earlier : (x : ℕ) → x < m → w .sender x ≡ w .sender m → To w g x → In n log x) where
   -- the bound rises: m was above it
   rise : (q : ℕ) → bound q ≤ at-place bound (w .sender m) (e + rank w g m) q
-  rise q = go (ℕ-discrete (w .sender m) q) (le-or-lt (e + rank w g m) (bound (w .sender m)))
-    where
-      go : Dec (w .sender m ≡ q)
-          → (e + rank w g m ≤ bound (w .sender m)) ⊎ (bound (w .sender m) < e + rank w g m)
-          → bound q ≤ at-place bound (w .sender m) (e + rank w g m) q
-      go (no d) z = omega (arith, at-else bound (w .sender m) (e + rank w g m) q d)
-      go (yes d) (inl z) = absurd (out (o .below-in m hm tm z))
-      go (yes d) (inr z) =
-          subst (λ (x : ℕ). bound x ≤ at-place bound (w .sender m) (e + rank w g m) x) d
-          (omega (arith, at-here bound (w .sender m) (e + rank w g m)))
+  rise =
+      at-or-off (w .sender m) (λ x. bound x ≤ at-place bound (w .sender m) (e + rank w g m) x)
+      (elim (le-or-lt (e + rank w g m) (bound (w .sender m))) [
+        | inl z ↦ absurd (out (o .below-in m hm tm z))
+        | inr z ↦ omega (arith, at-here bound (w .sender m) (e + rank w g m))
+      ])
+      (λ q d. omega (arith, at-else bound (w .sender m) (e + rank w g m) q d))
 
   -- the longer log is a prefix up to the raised bound
   pub prefix-more : Prefix e w g (n + 1) (at-place log n m) (at-place bound (w .sender m) (e + rank w g m))
@@ -100,7 +96,10 @@ module _ {s : ℕ} {e : ℕ} {w : Messages} {k : Knowledge} {g n : ℕ} {log bou
         (omega (arith, at-here bound (w .sender m) (e + rank w g m)));
     below-in =
         λ x h t l. inside x h t l (ℕ-discrete (w .sender m) (w .sender x)) (ℕ-discrete m x) (le-or-lt m x);
-    most = λ q. mosts q (ℕ-discrete (w .sender m) q);
+    most = at-or-off (w .sender m)
+        (λ x. at-place bound (w .sender m) (e + rank w g m) x ≤ e + all-of w x g)
+        (omega (arith, at-here bound (w .sender m) (e + rank w g m), stamp-most c m g (w .sender m) hm))
+        (λ q d. omega (arith, at-else bound (w .sender m) (e + rank w g m) q d, o .most q));
   }
     where
       inside : (x : ℕ) → x < w .total → To w g x
@@ -118,13 +117,6 @@ module _ {s : ℕ} {e : ℕ} {w : Messages} {k : Knowledge} {g n : ℕ} {log bou
           (subst (λ (y : ℕ). e + rank w g x ≤ at-place bound (w .sender m) (e + rank w g m) y) (sym d) l) in
           let up = stamp-lt c x m g h (omega arith) d t in
           absurd (omega (arith, ap (λ (q : ℕ). w .stamp m g q) d))
-
-      mosts : (q : ℕ) → Dec (w .sender m ≡ q)
-          → at-place bound (w .sender m) (e + rank w g m) q ≤ e + all-of w q g
-      mosts q (no d) = omega (arith, at-else bound (w .sender m) (e + rank w g m) q d, o .most q)
-      mosts q (yes d) =
-          subst (λ (x : ℕ). at-place bound (w .sender m) (e + rank w g m) x ≤ e + all-of w x g) d
-          (omega (arith, at-here bound (w .sender m) (e + rank w g m), stamp-most c m g (w .sender m) hm))
 
 -- a multicast: the new message is above every bound
 module _ {s : ℕ} {w : Messages} {k : Knowledge} {p groups : ℕ} {w′ : Messages} (c : Counting s w k)
@@ -272,22 +264,17 @@ module _ {n : ℕ} {w : Messages} {k : Knowledge} (r : Process) (c : Counting n 
   -- all that is before it is
   before-in : (x : ℕ) → k .before (r .fifo i) x ≡ true → x ≢ r .fifo i → To w (r .group) x
       → In (r .causal-length) (r .causal) x
-  before-in x b ne t = go (ℕ-discrete (w .sender x) (w .sender (r .fifo i)))
-    where
-      lx : x < r .fifo i
-      lx = omega (arith, c .closed .before (r .fifo i) .low x b)
-
-      hx : x < w .total
-      hx = omega (arith, lx, f .old i hi)
-
-      go : Dec (w .sender x ≡ w .sender (r .fifo i)) → In (r .causal-length) (r .causal) x
-      go (yes e) = same-in x lx e t
-      go (no e) =
-          o .prefix .below-in x hx t (omega (
-            arith,
-            stamp-le c (r .fifo i) x (r .group) (w .sender x) b,
-            free (w .sender x) (c .senders x hx) e,
-          ))
+  before-in x b ne t =
+      let lx : x < r .fifo i = omega (arith, c .closed .before (r .fifo i) .low x b) in
+      let hx : x < w .total = omega (arith, f .old i hi) in
+      elim (ℕ-discrete (w .sender x) (w .sender (r .fifo i))) [
+        | yes e ↦ same-in x lx e t
+        | no e ↦ o .prefix .below-in x hx t (omega (
+          arith,
+          stamp-le c (r .fifo i) x (r .group) (w .sender x) b,
+          free (w .sender x) (c .senders x hx) e,
+        ))
+      ]
 
   -- the log with it is a causal log again
   pub causal-log-more : CausalLogOf w (k .before) (causal-delivered w r (r .fifo i))

@@ -71,12 +71,10 @@ cast-up (cast-at i p a) = cast-at i p (there a)
 pub cast-there : (es : List Event) {n : ℕ} → Formed n es → (m : ℕ) → m < n → Cast es m
 cast-there [] f m h = absurd (omega (arith, f))
 cast-there (got r k ∷ es) f m h = cast-up (cast-there es f m h)
-cast-there (sent r k ∷ es) {n} f m h = go (ℕ-discrete k m) (λ l. cast-there es (f .1) m l)
-  where
-    go : Dec (k ≡ m) → (m < k → Cast es m) → Cast (sent r k ∷ es) m
-    go (yes e) ih =
-        cast-at (length es) r (subst (λ (z : ℕ). At (sent r k ∷ es) (length es) (sent r z)) e (here refl))
-    go (no d) ih = cast-up (ih (omega (arith, f .0)))
+cast-there (sent r k ∷ es) f m h = elim (ℕ-discrete k m) [
+  | yes e ↦ cast-at (length es) r (subst (λ (z : ℕ). At (sent r k ∷ es) (length es) (sent r z)) e (here refl))
+  | no d ↦ cast-up (cast-there es (f .1) m (omega (arith, f .0)))
+]
 
 -- ---- along precedence, what is known grows
 -- what its process knows of right after the event at place i
