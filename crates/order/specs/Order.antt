@@ -5,7 +5,7 @@
 use mathlib.Core.Path.{_≡_, sym, ap, _∙_, subst}
 use mathlib.Core.Bool.{true}
 use mathlib.Core.List.{List}
-use mathlib.Core.Logic.{_⊎_, inl, inr, _≢_, _↔_}
+use mathlib.Core.Logic.{inl, inr, _≢_, _↔_}
 use Prim.Native.Nat.{ℕ, _+_, _≤_, _<_}
 use native.Mathlib.Omega.{arith}
 use native.Mathlib.Decide.{ℕ-discrete}
@@ -17,7 +17,7 @@ use Rattle.world.specs.Setup.{setup-refusal}
 use Rattle.world.specs.History.{Event, sent, At, Before, Run, Item, on-states, run, started}
 use Rattle.effects.specs.Views.{Messages, messages, Process, process}
 use Rattle.order.specs.Knowledge.{Knowledge, knowledge}
-use Rattle.order.specs.Precedence.{Cast, cast-at, cast-there, precedes-before, before-precedes}
+use Rattle.order.specs.Precedence.{cast-at, cast-there, precedes-before, before-precedes}
 use Rattle.order.specs.Counters.{To, of-to, of, to, counted, all-of, Counting, sender-before}
 use Rattle.order.specs.Logs.{FifoLogOf, CausalLogOf, waits, Stuck, Quiet}
 use Rattle.order.specs.Cascade.{Fifo, Causal, MeaningOf}
@@ -143,19 +143,18 @@ module _ {r : Run State} (w : Whole r) (p : ℕ) where
   causal-ordered i j hi hj b =
       let o = w .meaning .each p .causal-log in
       let y = to-before (r .now (causal p j)) (r .now (causal p i)) b in
-      go (o .order i (r .now (causal p j)) hi (y .0) (y .1) (to-p (o .in-fifo j hj)))
+      elim (o .order i (r .now (causal p j)) hi (y .0) (y .1) (to-p (o .in-fifo j hj))) [
+        | in-at l h e ↦ elim (ℕ-discrete l j) [
+          | yes q ↦ omega arith
+          | no q ↦ elim (le-or-lt l j) [
+            | inl v ↦ absurd (causal-once l j (omega arith) hj e)
+            | inr v ↦ absurd (causal-once j l v (omega arith) (sym e))
+          ]
+        ]
+      ]
     where
       to-p : Fifo (r .now) p (r .now (causal p j)) → addressed (r .now) (r .now (causal p j)) p ≡ true
-      to-p (in-at l h e) =
-          rw e at (w .meaning .each p .fifo-log .to-group l h)
-
-      go : In i (λ l. r .now (causal p l)) (r .now (causal p j)) → j < i
-      go (in-at l h e) = same-place (ℕ-discrete l j) (le-or-lt l j)
-        where
-          same-place : Dec (l ≡ j) → (l ≤ j) ⊎ (j < l) → j < i
-          same-place (yes q) v = omega arith
-          same-place (no q) (inl v) = absurd (causal-once l j (omega arith) hj e)
-          same-place (no q) (inr v) = absurd (causal-once j l v (omega arith) (sym e))
+      to-p (in-at l h e) = rw e at (w .meaning .each p .fifo-log .to-group l h)
 
   -- ---- the FIFO logs
   -- FIFO order: the earlier messages of the same sender to its group stand ahead in the FIFO log of p
@@ -175,11 +174,9 @@ pub data Multicast (es : List Event) (p m : ℕ) : Type 0 where
 -- every message was multicast by its sender
 pub was-multicast : {r : Run State} → Whole r → (m : ℕ) → m < r .now count
     → Multicast (r .seen) (r .now (sender m)) m
-was-multicast {r} w m h = go (cast-there (r .seen) (w .formed) m h)
-  where
-    go : Cast (r .seen) m → Multicast (r .seen) (r .now (sender m)) m
-    go (cast-at i q a) =
-        multicast-at i (rw (w .senders i q m a) a)
+was-multicast {r} w m h = elim (cast-there (r .seen) (w .formed) m h) [
+  | cast-at i q a ↦ multicast-at i (rw (w .senders i q m a) a)
+]
 
 -- ---- uniform integrity: a process delivers a message at most once, only one that was multicast, and only to
 -- an addressee

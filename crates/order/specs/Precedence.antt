@@ -232,7 +232,13 @@ founded-sent {es} {k} p m c = record {
         (here refl) (eqb-true p q (both-l (eqb p q) (eqb m x) a)) (inl refl)
     | inr a ↦ knows-up (c .past-out q x a)
   ];
-  before-out = λ n x e. links n x e (ℕ-discrete m n);
+  before-out = λ n x e. elim (ℕ-discrete m n) [
+    | no d ↦ linked-up (c .before-out n x (sym (before-old k p m n x d) ∙ e))
+    | yes d ↦ elim (either-e (eqb m x) (k .past p x) (sym (before-new k p m n x d) ∙ e)) [
+      | inl a ↦ linked (length es) p (length es) p (now x (eqb-true m x a)) (now n d) (inl refl)
+      | inr a ↦ follows n x d (c .past-out p x a)
+    ]
+  ];
 }
   where
     -- the newest event
@@ -243,13 +249,6 @@ founded-sent {es} {k} p m c = record {
     follows n x e (knows i r j d a b v w) =
         linked i r (length es) p (there a) (now n e)
         (inr (weak-then (weak-up w) (same d _ (at-low b) (there b) (here refl) v)))
-
-    links : (n x : ℕ) → learn (sent p m) k .before n x ≡ true → Dec (m ≡ n) → Linked (sent p m ∷ es) n x
-    links n x e (no d) = linked-up (c .before-out n x (sym (before-old k p m n x d) ∙ e))
-    links n x e (yes d) = elim (either-e (eqb m x) (k .past p x) (sym (before-new k p m n x d) ∙ e)) [
-      | inl a ↦ linked (length es) p (length es) p (now x (eqb-true m x a)) (now n d) (inl refl)
-      | inr a ↦ follows n x d (c .past-out p x a)
-    ]
 
 -- so of every history
 founded : (es : List Event) → Founded es (knowledge es)
@@ -269,8 +268,9 @@ module _ (es : List Event) (n : ℕ) (f : Formed n es) (x m : ℕ) where
 
   -- and the other way round
   pub before-precedes : knowledge es .before m x ≡ true → x ≢ m → Before es x m
-  before-precedes e ne = go (founded es .before-out m x e)
-    where
-      go : Linked es m x → Before es x m
-      go (linked i r j q a b (inr w)) = casts r q a b w
-      go (linked i r j q a b (inl w)) = let d = at-one w a b in absurd (ne (let y : x ≡ m = cc (d) in y))
+  before-precedes e ne = elim (founded es .before-out m x e) [
+    | linked i r j q a b (inr w) ↦ casts r q a b w
+    | linked i r j q a b (inl w) ↦
+        let d = at-one w a b in
+        absurd (ne (let y : x ≡ m = cc (d) in y))
+  ]
