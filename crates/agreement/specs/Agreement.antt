@@ -96,27 +96,29 @@ module _ {r : Run State} (w : Whole r) (v : Live (is-up (r .now)) (r .now)) (cal
   abbrev s : State
   s = r .now
 
-  -- what a live process told another has been done
-  heard : (k m x u : ℕ) {done : Type 0} → k < 3 → m < r .now count → Up (r .now) x → Up (r .now) u
-      → Told (Down (r .now) x) (Down (r .now) u) done (Fly (r .now) m k x u) → done
-  heard k m x u hk hm ux uu (is-done d) = d
-  heard k m x u hk hm ux uu (from-down d) = absurd (d (ux .1))
-  heard k m x u hk hm ux uu (to-down d) = absurd (d (uu .1))
-  heard k m x u hk hm ux uu (flies f) = clash f (calm k m x u hk hm (ux .0) (uu .0) (ux .1) (uu .1))
+  -- no letter flies between live processes
+  none : (k m x u : ℕ) → k < 3 → m < r .now count → Up (r .now) x → Up (r .now) u → ¬ Fly (r .now) m k x u
+  none k m x u hk hm ux uu f = clash f (calm k m x u hk hm (ux .0) (uu .0) (ux .1) (uu .1))
+
+  -- so what one told another has been done
+  heard : (x u : ℕ) {done flying : Type 0} → Up (r .now) x → Up (r .now) u → (¬ flying)
+      → Told (Down (r .now) x) (Down (r .now) u) done flying → done
+  heard x u ux uu n (is-done d) = d
+  heard x u ux uu n (from-down d) = absurd (d (ux .1))
+  heard x u ux uu n (to-down d) = absurd (d (uu .1))
+  heard x u ux uu n (flies f) = absurd (n f)
 
   -- if a live process holds m, every live addressee does
   spread : (m x u : ℕ) → m < r .now count → Up (r .now) x → Held (r .now) x m → Up (r .now) u
       → addressed (r .now) m u ≡ true
       → Held (r .now) u m
-  spread m x u hm ux h uu a = go (v .net .relayed m x u hm (ux .0) (uu .0) h a)
-    where
-      go : Told (Down (r .now) x) (Down (r .now) u) (Held (r .now) u m)
-          (Fly (r .now) m 1 x u ⊎ Fly (r .now) m 2 x u) → Held (r .now) u m
-      go (is-done d) = d
-      go (from-down d) = absurd (d (ux .1))
-      go (to-down d) = absurd (d (uu .1))
-      go (flies (inl f)) = heard 1 m x u (omega arith) hm ux uu (flies f)
-      go (flies (inr f)) = heard 2 m x u (omega arith) hm ux uu (flies f)
+  spread m x u hm ux h uu a =
+      heard x u ux uu
+      (λ f. elim f [
+        | inl z ↦ none 1 m x u (omega arith) hm ux uu z
+        | inr z ↦ none 2 m x u (omega arith) hm ux uu z
+      ])
+      (v .net .relayed m x u hm (ux .0) (uu .0) h a)
 
   -- m is in the FIFO log of every live addressee
   abbrev Everywhere : ℕ → Type 0
@@ -177,7 +179,7 @@ module _ {r : Run State} (w : Whole r) (v : Live (is-up (r .now)) (r .now)) (cal
       where
         marked : (q : ℕ) → Up (r .now) q → addressed (r .now) m q ≡ true → Mark (r .now) u m q
         marked q uq b =
-            heard 2 m q u (omega arith) hm uq uu
+            heard q u uq uu (none 2 m q u (omega arith) hm uq uu)
             (v .net .okayed m q u hm (uq .0) (uu .0) (all q uq b) (near q uq b) a)
 
         go : Pending (place (r .now) u) m → Fifo (r .now) u m
@@ -191,7 +193,9 @@ module _ {r : Run State} (w : Whole r) (v : Live (is-up (r .now)) (r .now)) (cal
   validity : (m : ℕ) → m < r .now count → r .now (up (r .now (sender m))) ≡ 1 → Everywhere m
   validity = strong (λ m. m < r .now count → r .now (up (r .now (sender m))) ≡ 1 → Everywhere m)
       (λ m ih hm us. everywhere m hm
-      (λ u uu a. heard 0 m (r .now (sender m)) u (omega arith) hm (w .meaning .counting .senders m hm, us) uu
+      (λ u uu a.
+      let live : Up (r .now) (r .now (sender m)) = (w .meaning .counting .senders m hm, us) in
+      heard (r .now (sender m)) u live uu (none 0 m (r .now (sender m)) u (omega arith) hm live uu)
       (v .net .posted m u hm (uu .0) a))
       (λ y u ly e uu a d. ih y ly (omega arith) (rw e us) u uu d))
 
