@@ -23,7 +23,7 @@ use Rattle.world.specs.StepLaws.{InFlight}
 use Rattle.world.specs.History.{Event}
 use Rattle.world.specs.Kept.{mark-cases, hold-cases}
 use Rattle.effects.specs.Views.{messages, Process, process, Ground}
-use Rattle.effects.specs.Arrival.{Held, Fly, leave-cases, marked-held, marked-flight, mark-process, mark-ground, received-process, received-ground, received-held}
+use Rattle.effects.specs.Arrival.{Held, Fly, put-letter, leave-cases, marked-held, marked-flight, mark-process, mark-ground, received-process, received-ground, received-held}
 use Rattle.effects.specs.Holding.{sound-letter}
 use Rattle.effects.specs.Spent.{once-then, leave-once, mark-once, hold-once, multicast-once, marked-low}
 use Rattle.order.specs.Knowledge.{knowledge}
@@ -125,10 +125,9 @@ module _ (s : State) (k m q p : ℕ) (l : InFlight s k m q p) (sound : Sound s)
   unfolding put
   fly-on x j o u hu au z =
       hold-cases (λ t. Fly t x j o u) t₁ p m (λ _. on)
-      (λ _. put-at t₁ (flight m (pick (in-turn t₁ p m) 2 1) p) (flight x j o) (addressees t₁ m)
-      (λ v. bit v u ≡ true)
-      (λ c. let e : m ≡ x = cc in to-all u hu (rw e au))
-      (λ _. on))
+      (λ _. put-letter t₁ m (pick (in-turn t₁ p m) 2 1) p (addressees t₁ m)
+      (λ x j o v. addressed s x u ≡ true → Fly t₁ x j o u → bit v u ≡ true) (λ au _. to-all u hu au)
+      (λ _ _ _ _ f. f) x j o au on)
     where
       on : Fly (mark (leave s k m q p) k m q p) x j o u
       on = rw (marked-flight s k m q p x j o) z
@@ -285,10 +284,10 @@ module _ (s : State) (es : List Event) (p groups : ℕ) (o : MeaningOf s es) (so
   -- an old letter still flies
   sent-old : (x j r u : ℕ) → x < s count → Fly s x j r u → Fly (multicast s p groups) x j r u
   unfolding multicast post numbered stamped raised put with-tables
-  sent-old x j r u h z =
-      put-at s (flight (s count) 0 p) (flight x j r) (addressees (multicast s p groups) (s count))
-      (λ v. bit v u ≡ true)
-      (λ c. let e : s count ≡ x = cc in absurd (omega arith)) (λ _. z)
+  sent-old x j r u =
+      put-letter s (s count) 0 p (addressees (multicast s p groups) (s count))
+      (λ x j r v. x < s count → Fly s x j r u → bit v u ≡ true) (λ h _. absurd (omega arith)) (λ _ _ _ _ f. f)
+      x j r
 
   -- the first letters fly to all addressees
   first-letters : (u : ℕ) → u < s size → addressed (multicast s p groups) (s count) u ≡ true

@@ -21,29 +21,35 @@ Held s r m = s (held r m) ≡ 1
 abbrev pub Fly : State → ℕ → ℕ → ℕ → ℕ → Type 0
 Fly s m k q u = bit (s (flight m k q)) u ≡ true
 
+-- ---- a store in the letters of m of kind k from q, by cases
+pub put-letter : (s : State) (m k q v : ℕ) (P : ℕ → ℕ → ℕ → ℕ → Type 0) → P m k q v
+    → ((x j o : ℕ) → P x j o (s (flight x j o)))
+    → (x j o : ℕ) → P x j o (put s (flight m k q) v (flight x j o))
+put-letter s m k q v P it other x j o =
+    put-at s (flight m k q) (flight x j o) v (P x j o)
+    (λ e. subst₂ (λ (y i : ℕ). P y i o v) (cc) (cc) (let d : q ≡ o = cc in rw d at it)) (λ _. other x j o)
+
 -- ---- a letter leaves flight
 module _ (s : State) (k m q p : ℕ) where
   pub leave-less : (x j o u : ℕ) → Fly (leave s k m q p) x j o u → Fly s x j o u
   unfolding leave
   leave-less x j o u =
-      put-at s (flight m k q) (flight x j o) (without (s (flight m k q)) p)
-      (λ v. bit v u ≡ true → Fly s x j o u)
-      (λ e z. rw e at (without-old (s (flight m k q)) p u z)) (λ _ z. z)
+      put-letter s m k q (without (s (flight m k q)) p) (λ x j o v. bit v u ≡ true → Fly s x j o u)
+      (without-old (s (flight m k q)) p u) (λ _ _ _ z. z) x j o
 
   -- a letter that flew is that one, or it still flies
   pub leave-cases : (P : ℕ → ℕ → ℕ → ℕ → Type 0) → P m k q p
       → ((x j o u : ℕ) → Fly (leave s k m q p) x j o u → P x j o u)
       → (x j o u : ℕ) → Fly s x j o u → P x j o u
   unfolding leave
-  leave-cases P it other x j o u z = elim (ℕ-discrete p u) [
-    | yes d ↦ put-at s (flight m k q) (flight x j o) (without (s (flight m k q)) p)
-        (λ v. (bit v u ≡ true → P x j o u) → P x j o u)
-        (λ e _. subst₂ (λ (y v : ℕ). P y j o v) (cc) d (subst₂ (λ (i r : ℕ). P m i r p) (cc) (cc) it))
-        (λ _ f. f z) (other x j o u)
-    | no d ↦ other x j o u
-        (put-at s (flight m k q) (flight x j o) (without (s (flight m k q)) p) (λ v. bit v u ≡ true)
-        (λ e. without-other (s (flight m k q)) p u d ∙ rw e z) (λ _. z))
-  ]
+  leave-cases P it other x j o u z =
+      put-letter s m k q (without (s (flight m k q)) p)
+      (λ x j o v. Fly s x j o u → (bit v u ≡ true → P x j o u) → P x j o u)
+      (λ f rest. elim (ℕ-discrete p u) [
+        | yes d ↦ rw d at it
+        | no d ↦ rest (without-other (s (flight m k q)) p u d ∙ f)
+      ])
+      (λ _ _ _ f rest. rest f) x j o z (other x j o u)
 
 -- ---- what an arrival before its cascade leaves
 module _ (s : State) (k m q p : ℕ) where

@@ -2,7 +2,7 @@
 -- once its message is multicast, a relay once its origin holds the message, an OK once its origin holds it in
 -- turn or past it. What is sent was not spent before and is spent after, and what is spent stays so. Assumes
 -- nothing.
-use mathlib.Core.Path.{_≡_, refl, ap, _∙_, subst, subst₂}
+use mathlib.Core.Path.{_≡_, refl, ap, _∙_}
 use mathlib.Core.Bool.{Bool, true, false}
 use mathlib.Core.Logic.{_⊎_, inl, inr, _≢_}
 use Prim.Native.Nat.{ℕ, zero, suc, _-_, _≤_, _<_}
@@ -11,7 +11,7 @@ use borrow.Author.Tests.{eqb-true, ne-eqb}
 use Rattle.base.specs.Tests.{pick, pick-no}
 use Rattle.base.specs.Loop.{loop-keeps}
 use Rattle.base.specs.Bits.{bit}
-use Rattle.world.specs.World.{count, group, trust, up, fifo-length, next, held, sender, number, flight, State, put}
+use Rattle.world.specs.World.{count, group, trust, up, fifo-length, next, held, sender, number, State, put}
 use Rattle.world.specs.Layout.{put-at, put-other}
 use Rattle.world.specs.Machine.{with-tables, addressees, in-turn, ready, fifo-one, cascade, raised, stamped, numbered, multicast, leave, mark, hold, arrival, trust-set, crash}
 use Rattle.world.specs.Machine.{posted as post}
@@ -20,7 +20,7 @@ use Rattle.world.specs.StepLaws.{accepted-arrival}
 use Rattle.world.specs.Kept.{mark-cases, hold-cases, holding}
 use Rattle.effects.specs.Views.{Still}
 use Rattle.effects.specs.Cascade.{Near, near-on, ok-far, ok-near, letter-cases, fifo-one-still}
-use Rattle.effects.specs.Arrival.{Held, Fly, leave-less}
+use Rattle.effects.specs.Arrival.{Held, Fly, put-letter, leave-less}
 
 -- ---- a letter that cannot be sent any more
 abbrev pub SentBy : State → ℕ → ℕ → ℕ → Type 0
@@ -100,10 +100,10 @@ hold-once s p m hm = hold-cases (Once s) s p m (λ _. once-self s) (λ new. reco
   grows = omega arith;
   held-on = λ x r _ h. put-at s (held p m) (held r x) 1 (λ v. v ≡ 1) (λ _. refl) (λ _. h);
   near-on = λ x r _ h. h;
-  new-letter = λ k x o u. put-at s (flight m (pick (in-turn s p m) 2 1) p) (flight x k o) (addressees s m)
-      (λ v. bit v u ≡ true
+  new-letter = λ k x o u. put-letter s m (pick (in-turn s p m) 2 1) p (addressees s m)
+      (λ x k o v. bit v u ≡ true
       → Fly s x k o u ⊎ ((¬ Spent s k x o) × Spent (holding s p m (pick (in-turn s p m) 2 1)) k x o))
-      (λ e _. inr (answered new k x o (cc) (cc) (cc))) (λ _ f. inl f);
+      (λ _. inr (kinds new (in-turn s p m) refl)) (λ _ _ _ f. inl f) x k o;
 })
   where
     holds : put s (held p m) 1 (held p m) ≡ 1
@@ -116,13 +116,6 @@ hold-once s p m hm = hold-cases (Once s) s p m (λ _. once-self s) (λ new. reco
       (hm, (holds, omega (arith, eqb-true (s (number m (s (group p)))) (s (next p (s (sender m)))) e))),
     )
     kinds new false e = ((λ z. new (z .1)), (hm, holds))
-
-    answered : s (held p m) ≢ 1 → (k x o : ℕ) → m ≡ x → pick (in-turn s p m) 2 1 ≡ k → p ≡ o
-        → (¬ Spent s k x o) × Spent (holding s p m (pick (in-turn s p m) 2 1)) k x o
-    answered new k x o em ek eo =
-        subst₂ (λ (y z : ℕ). (¬ Spent s k y z) × Spent (holding s p m (pick (in-turn s p m) 2 1)) k y z) em eo
-        (subst (λ (j : ℕ). (¬ Spent s j m p) × Spent (holding s p m (pick (in-turn s p m) 2 1)) j m p) ek
-        (kinds new (in-turn s p m) refl))
 
 -- a turn of the cascade: the OKs are for messages that come in turn now
 pub turn-once : (t : State) (p m : ℕ) → Once t (fifo-one t p m)
@@ -161,10 +154,11 @@ multicast-once s p groups = record {
   grows = omega arith;
   held-on = λ x r _ h. h;
   near-on = λ x r hx h. omega (arith, h, number-is x r hx, ap (λ (q : ℕ). s (next r q)) (sender-is x hx));
-  new-letter =
-      λ k x q u. put-at s (flight (s count) 0 p) (flight x k q) (addressees (multicast s p groups) (s count))
-      (λ v. bit v u ≡ true → Fly s x k q u ⊎ ((¬ Spent s k x q) × Spent (multicast s p groups) k x q))
-      (λ e _. inr (first k x q (cc) (cc))) (λ _ f. inl f);
+  new-letter = λ k x q u.
+      put-letter s (s count) 0 p (addressees (multicast s p groups) (s count))
+      (λ x k q v. bit v u ≡ true
+      → Fly s x k q u ⊎ ((¬ Spent s k x q) × Spent (multicast s p groups) k x q))
+      (λ _. inr ((λ z. absurd (omega (arith, z .0))), (omega arith, tt))) (λ _ _ _ f. inl f) x k q;
 }
   where
     number-is : (x r : ℕ) → x < s count
@@ -174,13 +168,6 @@ multicast-once s p groups = record {
     sender-is : (x : ℕ) → x < s count → multicast s p groups (sender x) ≡ s (sender x)
     sender-is x hx =
         put-other s (sender (s count)) (sender x) p (λ e. let z : s count ≡ x = cc in omega arith)
-
-    first : (k x q : ℕ) → s count ≡ x → 0 ≡ k → (¬ Spent s k x q) × Spent (multicast s p groups) k x q
-    first k x q ex ek = (
-      (λ z. absurd (omega (arith, z .0))),
-      subst (λ (j : ℕ). Spent (multicast s p groups) j x q) ek
-          (omega arith, tt),
-    )
 
 -- neither a trust set nor a crash concerns a letter
 trusted-once : (s : State) (p set : ℕ) → Once s (put s (trust p) set)
