@@ -2,7 +2,7 @@
 -- once its message is multicast, a relay once its origin holds the message, an OK once its origin holds it in
 -- turn or past it. What is sent was not spent before and is spent after, and what is spent stays so. Assumes
 -- nothing.
-use mathlib.Core.Path.{_≡_, refl, ap, _∙_}
+use mathlib.Core.Path.{_≡_, refl, sym, ap, _∙_, subst}
 use mathlib.Core.Bool.{Bool, true, false}
 use mathlib.Core.Logic.{_⊎_, inl, inr, _≢_}
 use Prim.Native.Nat.{ℕ, zero, suc, _-_, _≤_, _<_}
@@ -18,7 +18,7 @@ use Rattle.world.specs.Machine.{posted as post}
 use Rattle.world.specs.Steps.{Step, multicasts, arrives, loses, trusts, crashes, malformed, accepted, step}
 use Rattle.world.specs.StepLaws.{accepted-arrival}
 use Rattle.world.specs.Kept.{mark-cases, hold-cases, holding}
-use Rattle.effects.specs.Views.{Still}
+use Rattle.effects.specs.Views.{Scene, scene, Still}
 use Rattle.effects.specs.Cascade.{Near, near-on, ok-far, ok-near, letter-cases, fifo-one-still}
 use Rattle.effects.specs.Arrival.{Held, Fly, put-letter, leave-less}
 
@@ -47,14 +47,21 @@ spent-on o (suc zero) m q (h, x) = (omega (arith, o .grows), o .held-on m q h x)
 spent-on o (suc (suc k)) m q (h, x) =
     (omega (arith, o .grows), (o .held-on m q h (x .0), o .near-on m q h (x .1)))
 
+-- a change that concerns no process's record and nothing that is held, and sends nothing
+once-by : (s t : State) → scene t ≡ scene s → _≡_ {A = ℕ → ℕ → ℕ} (λ r m. t (held r m)) (λ r m. s (held r m))
+    → ((k m q u : ℕ) → Fly t m k q u → Fly s m k q u) → Once s t
+once-by s t e h less = record {
+  grows = omega (arith, ap (λ (v : Scene). v .messages .total) e);
+  held-on = λ m r _ d. ap (λ (g : ℕ → ℕ → ℕ). g r m) h ∙ d;
+  near-on = λ m r _.
+      subst (λ (v : Scene). v .messages .number m (v .own r .group) ≤ v .own r .next (v .messages .sender m))
+      (sym e);
+  new-letter = λ k m q u f. inl (less k m q u f);
+}
+
 -- no change at all
 pub once-self : (s : State) → Once s s
-once-self s = record {
-  grows = omega arith;
-  held-on = λ m r _ h. h;
-  near-on = λ m r _ h. h;
-  new-letter = λ k m q u f. inl f;
-}
+once-self s = once-by s s refl refl (λ _ _ _ _ f. f)
 
 -- one change after another
 pub once-then : {s t u : State} → Once s t → Once t u → Once s u
@@ -74,24 +81,13 @@ once-then {s} {t} {u} a b = record {
 -- ---- the parts of a step
 pub leave-once : (s : State) (k m q p : ℕ) → Once s (leave s k m q p)
 unfolding leave put
-leave-once s k m q p = record {
-  grows = omega arith;
-  held-on = λ x r _ h. h;
-  near-on = λ x r _ h. h;
-  new-letter = λ j x o u f. inl (leave-less s k m q p x j o u f);
-}
+leave-once s k m q p = once-by s (leave s k m q p) refl refl (λ j x o u. leave-less s k m q p x j o u)
 
 -- a mark sends nothing
 pub mark-once : (s : State) (k m q p : ℕ) → Once s (mark s k m q p)
 unfolding put
-mark-once s k m q p = mark-cases (Once s) s k m q p
-    (λ _. record {
-      grows = omega arith;
-      held-on = λ x r _ h. h;
-      near-on = λ x r _ h. h;
-      new-letter = λ j x o u f. inl f;
-    })
-    (λ _. once-self s)
+mark-once s k m q p =
+    mark-cases (Once s) s k m q p (λ _. once-by s _ refl refl (λ _ _ _ _ f. f)) (λ _. once-self s)
 
 -- the answer to a message that is first held
 pub hold-once : (s : State) (p m : ℕ) → m < s count → Once s (hold s p m)
@@ -169,26 +165,6 @@ multicast-once s p groups = record {
     sender-is x hx =
         put-other s (sender (s count)) (sender x) p (λ e. let z : s count ≡ x = cc in omega arith)
 
--- neither a trust set nor a crash concerns a letter
-trusted-once : (s : State) (p set : ℕ) → Once s (put s (trust p) set)
-unfolding put
-trusted-once s p set = record {
-  grows = omega arith;
-  held-on = λ x r _ h. h;
-  near-on = λ x r _ h. h;
-  new-letter = λ j x o u f. inl f;
-}
-
--- nor a crash
-crashed-once : (s : State) (p : ℕ) → Once s (put s (up p) 0)
-unfolding put
-crashed-once s p = record {
-  grows = omega arith;
-  held-on = λ x r _ h. h;
-  near-on = λ x r _ h. h;
-  new-letter = λ j x o u f. inl f;
-}
-
 -- the message is one still
 pub marked-low : (s : State) (k m q p : ℕ) → m < s count → m < mark (leave s k m q p) k m q p count
 unfolding leave put
@@ -210,6 +186,7 @@ step-once s (arrives k m q p) e =
     once-then (leave-once s k m q p)
     (arrived-once s k m q p (accepted-arrival s k m q p e .letter .message))
 step-once s (loses k m q p) e = leave-once s k m q p
-step-once s (trusts p set) e = once-then (trusted-once s p set) (cascade-once (put s (trust p) set) p)
-step-once s (crashes p) e = crashed-once s p
+step-once s (trusts p set) e =
+    once-then (once-by s (put s (trust p) set) refl refl (λ _ _ _ _ f. f)) (cascade-once (put s (trust p) set) p)
+step-once s (crashes p) e = once-by s (put s (up p) 0) refl refl (λ _ _ _ _ f. f)
 step-once s malformed e = once-self s
