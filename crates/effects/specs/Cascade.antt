@@ -166,11 +166,6 @@ pub fifo-middle-still : (s : State) (p m : ℕ) → still (fifo-middle s p m) �
 unfolding causal-one merge with-tables raised-next appended put
 fifo-middle-still s p m = causal-all-keeps still p (λ t i. refl) (fifo-started s p m)
 
--- and the letters
-fifo-middle-letters : (s : State) (p m : ℕ) → letters (fifo-middle s p m) ≡ letters s
-unfolding causal-one merge with-tables raised-next appended put
-fifo-middle-letters s p m = causal-all-keeps letters p (λ t i. refl) (fifo-started s p m)
-
 -- so does the turn
 pub fifo-one-still : (s : State) (p m : ℕ) → still (fifo-one s p m) ≡ still s
 fifo-one-still s p m =
@@ -181,6 +176,11 @@ pub cascade-still : (s : State) (p : ℕ) → still (cascade s p) ≡ still s
 cascade-still s p = cascade-keeps still p (λ t m. fifo-one-still t p m) s
 
 -- ---- the letters of a turn
+-- its middle leaves them
+fifo-middle-letters : (s : State) (p m : ℕ) → letters (fifo-middle s p m) ≡ letters s
+unfolding causal-one merge with-tables raised-next appended put
+fifo-middle-letters s p m = causal-all-keeps letters p (λ t i. refl) (fifo-started s p m)
+
 -- whether p owes an OK for m of the sender q looks at what a cascade keeps, and at next
 abbrev due-by : Still → (ℕ → ℕ) → ℕ → ℕ → ℕ → Bool
 due-by v nexts p q m =
