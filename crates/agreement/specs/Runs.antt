@@ -97,8 +97,7 @@ module _ (live : ℕ → Bool) (s : State) (es : List Event) (w : Whole (with-hi
           (λ e. d
           (sym (o .old-number x (s (group r)) hx) ∙ e
           ∙ ap (λ (z : ℕ). s (next r z)) (o .old-sender x hx)))
-      pending r x hx (unmarked q hq b a d) =
-          unmarked q hq b (rw (o .old-mask x hx) a) d
+      pending r x hx (unmarked q hq b a d) = unmarked q hq b (rw (o .old-mask x hx) a) d
 
   -- an arrival
   arrival-live : (k m q p : ℕ) → accepted s (arrives k m q p) ≡ true → Covers live s p

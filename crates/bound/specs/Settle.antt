@@ -157,8 +157,7 @@ module _ (setup : List ℕ) (items : List Item) (ok : setup-refusal setup ≡ 0)
   pub reached-settle-bound : (b : ℕ) → arrivals (settle (run on-states (started setup) items .now) b .ending)
       ≤ sum (run on-states (started setup) items .now count)
       (λ m. ceiling (addressee-count (run on-states (started setup) items .now) m))
-  reached-settle-bound b =
-      omega (arith, ended end b sound-end .few, few)
+  reached-settle-bound b = omega (arith, ended end b sound-end .few, few)
 
   -- so at most 33,792
   pub reached-settle-most : (b : ℕ)
@@ -168,5 +167,4 @@ module _ (setup : List ℕ) (items : List Item) (ok : setup-refusal setup ≡ 0)
   -- a settle with at least 33,792 arrivals says done, without the trust rule
   pub reached-settle-done : (b : ℕ) → 33792 ≤ b
       → SaysDone (settle (run on-states (started setup) items .now) b .ending)
-  reached-settle-done b l =
-      ended end b sound-end .finishes (omega (arith, reached-low)) .0
+  reached-settle-done b l = ended end b sound-end .finishes (omega (arith, reached-low)) .0

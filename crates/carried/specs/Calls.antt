@@ -118,8 +118,7 @@ module _ {s t : State} (a : Agree s t) where
   step-agree (loses k m q p) e =
       let y = accepted-loss s k m q p e in
       leave-agree k m q p (y .kind) (message-low a m (y .message)) (process-low a q (y .from)) a
-  step-agree (trusts p set) e =
-      trust-agree p set (process-low a p (accepted-trust s p set e .process)) a
+  step-agree (trusts p set) e = trust-agree p set (process-low a p (accepted-trust s p set e .process)) a
   step-agree (crashes p) e = crash-agree p a
   step-agree malformed e = a
 

@@ -90,8 +90,7 @@ module _ (s : State) (h : Sound s) (a : AgreedStates s) where
 
   -- what is in a log is a message
   logged : (p m : ℕ) → p < s size → Fifo s p m → m < s count
-  logged p m hp (in-at i l e) =
-      rw e at (ltb-true (s (fifo p i)) (s count) (fifo-addressed s h p i hp l .of))
+  logged p m hp (in-at i l e) = rw e at (ltb-true (s (fifo p i)) (s count) (fifo-addressed s h p i hp l .of))
 
   -- who is up on the words is up
   up-read : (q : ℕ) → q < s size → view (encode s) (up q) ≡ 1 → s (up q) ≡ 1
@@ -187,5 +186,4 @@ module _ (setup : List ℕ) (items : List Item) (ok : setup-refusal setup ≡ 0)
 -- live addressees, and each has told all that it is its turn; what one process delivered was vouched for by a
 -- live member of each group, which the trust rule gives.
 pub demand-3 : Demand3Always
-demand-3 w setup items e =
-    rw (start-carried w setup e) (demand-3-written setup items (setup-taken w setup e))
+demand-3 w setup items e = rw (start-carried w setup e) (demand-3-written setup items (setup-taken w setup e))

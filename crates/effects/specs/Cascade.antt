@@ -288,8 +288,7 @@ module _ (t : State) (p m x : ℕ) where
 
   -- next of m's sender has risen
   mid-next : t (sender x) ≡ t (sender m) → turned t p m .next (t (sender x)) ≡ t (next p (t (sender m))) + 1
-  mid-next e =
-      ap (turned t p m .next) e ∙ pick-yes _ (t (next p (t (sender m)))) (eqb-refl (t (sender m)))
+  mid-next e = ap (turned t p m .next) e ∙ pick-yes _ (t (next p (t (sender m)))) (eqb-refl (t (sender m)))
 
   -- an OK that is owed is a new one
   owed-facts : x < t count → due (fifo-middle t p m) p (t (sender m)) x ≡ true → NewOk t p m x

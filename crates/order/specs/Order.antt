@@ -240,8 +240,7 @@ counter-meaning {r} w = record {
         → ((i : ℕ) → i < n
         → e + r .now (stamp (log i) g (r .now (sender (log i)))) ≤ bound (r .now (sender (log i))))
         → e + r .now (stamp m g (r .now (sender m))) ≤ bound (r .now (sender m))
-    below e bound g (in-at i l d) h =
-        rw d at (h i l)
+    below e bound g (in-at i l d) h = rw d at (h i l)
 
 -- ---- for every setup record that is taken and every list of items
 pub reached : (setup : List ℕ) (items : List Item) → setup-refusal setup ≡ 0
