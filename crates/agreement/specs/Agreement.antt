@@ -22,7 +22,7 @@ use Rattle.world.specs.Steps.{is-up}
 use Rattle.world.specs.History.{Run, Fair}
 use Rattle.effects.specs.Views.{Messages, messages, place}
 use Rattle.order.specs.Knowledge.{Knowledge, knowledge}
-use Rattle.order.specs.Counters.{To, of-to, of, to, Counting, sender-before, stamp-lt}
+use Rattle.order.specs.Counters.{To, of-to, of, to, both-less, Counting, sender-before, stamp-lt}
 use Rattle.order.specs.Runs.{Whole}
 use Rattle.order.specs.Cascade.{Fifo}
 use Rattle.effects.specs.Cascade.{Near}
@@ -36,12 +36,10 @@ tally-below : (n k : ℕ) (f : ℕ → Bool) → k ≤ n → ((i : ℕ) → k �
     → tally n f ≡ tally k f
 unfolding tally
 tally-below zero k f h e = ap (λ (x : ℕ). tally x f) (let z : 0 ≡ k = omega arith in z)
-tally-below (suc n) k f h e =
-    go (ℕ-discrete k (suc n)) (λ l. tally-below n k f l (λ i a b. e i a (omega arith)))
-  where
-    go : Dec (k ≡ suc n) → (k ≤ n → tally n f ≡ tally k f) → tally (suc n) f ≡ tally k f
-    go (yes a) ih = ap (λ (x : ℕ). tally x f) (sym a)
-    go (no a) ih = rw (e n (omega arith) (omega arith)) (ih (omega arith))
+tally-below (suc n) k f h e = elim (ℕ-discrete k (suc n)) [
+  | yes a ↦ ap (λ (x : ℕ). tally x f) (sym a)
+  | no a ↦ rw (e n (omega arith) (omega arith)) (tally-below n k f (omega arith) (λ i x y. e i x (omega arith)))
+]
 
 -- the number of m in a group of its mask
 pub number-is : {n : ℕ} {w : Messages} {k : Knowledge} (c : Counting n w k) (m g : ℕ) → m < w .total
@@ -54,22 +52,14 @@ number-is {n} {w} {k} c m g h t =
     let cut = tally-below (w .total) (suc m) f h (λ i a b. above i a (bool-cases (k .before m i))) in
     let top : f m ≡ true = both-i (k .before m m) (of-to w q g m) (c .closed .before-self m h)
     (both-i (eqb q q) (bit (w .mask m) g) (eqb-refl q) t) in
-    let low = tally-cong m f (of-to w q g) (λ x l. mine x l (of-to w q g x) refl) in
+    let low = tally-cong m f (of-to w q g) (λ x l. both-less (k .before m x) (of-to w q g x)
+    (λ e. sender-before c m x h (omega arith) (of w q g x e))) in
     c .numbers m g h ∙ c .stamps m g q h ∙ cut ∙ pick-yes (suc (tally m f)) (tally m f) top ∙ ap suc low
   where
     above : (i : ℕ) → suc m ≤ i → (k .before m i ≡ true) ⊎ (k .before m i ≡ false)
         → both (k .before m i) (of-to w (w .sender m) g i) ≡ false
     above i a (inl e) = absurd (omega (arith, c .closed .before m .low i e))
     above i a (inr e) = rw e
-
-    mine : (x : ℕ) → x < m → (b : Bool) → of-to w (w .sender m) g x ≡ b → both (k .before m x) b ≡ b
-    mine x l true e =
-        both-i (k .before m x) true (sender-before c m x h (omega arith) (of w (w .sender m) g x e)) refl
-    mine x l false e = go (k .before m x)
-      where
-        go : (b : Bool) → both b false ≡ false
-        go true = refl
-        go false = refl
 
 -- if the number of each that passes is below c, so is the count of them
 count-up : (f : ℕ → Bool) (c m : ℕ) → 1 ≤ c → ((y : ℕ) → y < m → f y ≡ true → suc (tally y f) < c)
@@ -106,27 +96,29 @@ module _ {r : Run State} (w : Whole r) (v : Live (is-up (r .now)) (r .now)) (cal
   abbrev s : State
   s = r .now
 
-  -- what a live process told another has been done
-  heard : (k m x u : ℕ) {done : Type 0} → k < 3 → m < r .now count → Up (r .now) x → Up (r .now) u
-      → Told (Down (r .now) x) (Down (r .now) u) done (Fly (r .now) m k x u) → done
-  heard k m x u hk hm ux uu (is-done d) = d
-  heard k m x u hk hm ux uu (from-down d) = absurd (d (ux .1))
-  heard k m x u hk hm ux uu (to-down d) = absurd (d (uu .1))
-  heard k m x u hk hm ux uu (flies f) = clash f (calm k m x u hk hm (ux .0) (uu .0) (ux .1) (uu .1))
+  -- no letter flies between live processes
+  none : (k m x u : ℕ) → k < 3 → m < r .now count → Up (r .now) x → Up (r .now) u → ¬ Fly (r .now) m k x u
+  none k m x u hk hm ux uu f = clash f (calm k m x u hk hm (ux .0) (uu .0) (ux .1) (uu .1))
+
+  -- so what one told another has been done
+  heard : (x u : ℕ) {done flying : Type 0} → Up (r .now) x → Up (r .now) u → (¬ flying)
+      → Told (Down (r .now) x) (Down (r .now) u) done flying → done
+  heard x u ux uu n (is-done d) = d
+  heard x u ux uu n (from-down d) = absurd (d (ux .1))
+  heard x u ux uu n (to-down d) = absurd (d (uu .1))
+  heard x u ux uu n (flies f) = absurd (n f)
 
   -- if a live process holds m, every live addressee does
   spread : (m x u : ℕ) → m < r .now count → Up (r .now) x → Held (r .now) x m → Up (r .now) u
       → addressed (r .now) m u ≡ true
       → Held (r .now) u m
-  spread m x u hm ux h uu a = go (v .net .relayed m x u hm (ux .0) (uu .0) h a)
-    where
-      go : Told (Down (r .now) x) (Down (r .now) u) (Held (r .now) u m)
-          (Fly (r .now) m 1 x u ⊎ Fly (r .now) m 2 x u) → Held (r .now) u m
-      go (is-done d) = d
-      go (from-down d) = absurd (d (ux .1))
-      go (to-down d) = absurd (d (uu .1))
-      go (flies (inl f)) = heard 1 m x u (omega arith) hm ux uu (flies f)
-      go (flies (inr f)) = heard 2 m x u (omega arith) hm ux uu (flies f)
+  spread m x u hm ux h uu a =
+      heard x u ux uu
+      (λ f. elim f [
+        | inl z ↦ none 1 m x u (omega arith) hm ux uu z
+        | inr z ↦ none 2 m x u (omega arith) hm ux uu z
+      ])
+      (v .net .relayed m x u hm (ux .0) (uu .0) h a)
 
   -- m is in the FIFO log of every live addressee
   abbrev Everywhere : ℕ → Type 0
@@ -187,7 +179,7 @@ module _ {r : Run State} (w : Whole r) (v : Live (is-up (r .now)) (r .now)) (cal
       where
         marked : (q : ℕ) → Up (r .now) q → addressed (r .now) m q ≡ true → Mark (r .now) u m q
         marked q uq b =
-            heard 2 m q u (omega arith) hm uq uu
+            heard q u uq uu (none 2 m q u (omega arith) hm uq uu)
             (v .net .okayed m q u hm (uq .0) (uu .0) (all q uq b) (near q uq b) a)
 
         go : Pending (place (r .now) u) m → Fifo (r .now) u m
@@ -201,9 +193,11 @@ module _ {r : Run State} (w : Whole r) (v : Live (is-up (r .now)) (r .now)) (cal
   validity : (m : ℕ) → m < r .now count → r .now (up (r .now (sender m))) ≡ 1 → Everywhere m
   validity = strong (λ m. m < r .now count → r .now (up (r .now (sender m))) ≡ 1 → Everywhere m)
       (λ m ih hm us. everywhere m hm
-      (λ u uu a. heard 0 m (r .now (sender m)) u (omega arith) hm (w .meaning .counting .senders m hm, us) uu
+      (λ u uu a.
+      let live : Up (r .now) (r .now (sender m)) = (w .meaning .counting .senders m hm, us) in
+      heard (r .now (sender m)) u live uu (none 0 m (r .now (sender m)) u (omega arith) hm live uu)
       (v .net .posted m u hm (uu .0) a))
-      (λ y u ly e uu a d. ih y ly (omega arith) (subst (λ (z : ℕ). r .now (up z) ≡ 1) (sym e) us) u uu d))
+      (λ y u ly e uu a d. ih y ly (omega arith) (rw e us) u uu d))
 
   -- what some process has delivered is everywhere
   agreement : (m p : ℕ) → p < r .now size → Fifo (r .now) p m → Everywhere m
@@ -216,7 +210,7 @@ module _ {r : Run State} (w : Whole r) (v : Live (is-up (r .now)) (r .now)) (cal
           (λ y u ly e uu a d. earlier y u ly e uu a d (vouch u uu a))
         where
           hm : m < r .now count
-          hm = elim f [ in-at i h e ↦ subst (λ (z : ℕ). z < r .now count) e (w .meaning .each p .fifo-log .old i h) ]
+          hm = elim f [ in-at i h e ↦ rw e at (w .meaning .each p .fifo-log .old i h) ]
 
           vouch : (u : ℕ) → Up (r .now) u → addressed (r .now) m u ≡ true
               → Vouched (is-up (r .now)) (r .now size) (λ x. r .now (group x)) (r .now (marks p m)) u
@@ -242,9 +236,9 @@ module _ {r : Run State} (w : Whole r) (v : Live (is-up (r .now)) (r .now)) (cal
               let g : ℕ = r .now (group x) in
               let hy : y < r .now count = omega (arith, hm) in
               let am : addressed (r .now) m x ≡ true =
-              subst (λ (z : ℕ). bit (r .now (mask m)) z ≡ true) (sym gx) a in
+              rw gx a in
               let ay : addressed (r .now) y x ≡ true =
-              subst (λ (z : ℕ). bit (r .now (mask y)) z ≡ true) (sym gx) d in
+              rw gx d in
               let fy = w .meaning .each x .fifo-log .prefix .below-in y hy ay
               (omega (
                 arith,

@@ -3,7 +3,7 @@
 -- addressee, and so has whoever is in turn and the sender, unless an end is down or the letter still flies.
 -- Every change of a world that loses no letter between up processes, and sends what it owes (Progress), keeps
 -- this. Assumes nothing.
-use mathlib.Core.Path.{_≡_, refl, sym, _∙_, subst}
+use mathlib.Core.Path.{_≡_, refl, sym, _∙_}
 use mathlib.Core.Bool.{true}
 use mathlib.Core.Logic.{_⊎_, inl, inr, _≢_}
 use Prim.Native.Nat.{ℕ, _<_}
@@ -91,8 +91,7 @@ pub record Progress (s t : State) : Type 0 where
 pub net-progress : (s t : State) → Progress s t → Net s → Net t
 net-progress s t g n = record {
   kept = λ p i hp hi. elim (g .logged p i (small p hp) hi) [
-    | inl a ↦ subst (Held t p) (sym (a .1))
-        (g .once .held-on (s (fifo p i)) p (a .2) (n .kept p i (small p hp) (a .0)))
+    | inl a ↦ rw (a .1) (g .once .held-on (s (fifo p i)) p (a .2) (n .kept p i (small p hp) (a .0)))
     | inr a ↦ a
   ];
   ok-flies = λ m r u hm hr hu f. elim (g .once .new-letter 2 m r u f) [
@@ -124,9 +123,7 @@ net-progress s t g n = record {
   ];
   posted = λ m u hm hu a. elim (g .new-message m hm) [
     | inr all ↦ flies (all u hu a)
-    | inl o ↦ subst (λ (r : ℕ). Told (Down t r) (Down t u) (Held t u m) (Fly t m 0 r u))
-        (sym (g .same-sender m o))
-        (told m (s (sender m)) u (g .once .held-on m u o)
+    | inl o ↦ rw (g .same-sender m o) (told m (s (sender m)) u (g .once .held-on m u o)
         (letter 0 m (s (sender m)) u o (g .senders m o) (small u hu) (old m u o a) (λ d _. d) (λ f. f))
         (n .posted m u o (small u hu) (old m u o a)))
   ];

@@ -17,22 +17,23 @@ use Rattle.world.specs.World.{size, count, group, trust, up, causal-length, fif
 use Rattle.world.specs.Layout.{put-other}
 use Rattle.world.specs.SoundLaws.{size-high, held-facts}
 use Rattle.world.specs.Setup.{fresh, made}
-use Rattle.world.specs.Machine.{with-tables, cascade, raised, stamped, numbered, posted, multicast, leave, mark, arrival, trust-set, crash}
+use Rattle.world.specs.Machine.{with-tables, cascade, raised, stamped, numbered, posted, multicast, leave, received, arrival, trust-set, crash}
 use Rattle.world.specs.Steps.{Step, multicasts, arrives, loses, trusts, crashes, malformed, read, accepted, step}
-use Rattle.world.specs.StepLaws.{accepted-multicast, accepted-arrival, accepted-trust, lowest-moves}
+use Rattle.world.specs.StepLaws.{accepted-multicast, accepted-arrival, accepted-trust, lowest-moves, moves-taken}
 use Rattle.world.specs.Settle.{lowest}
 use Rattle.world.specs.SettleLaws.{settle-keeps}
 use Rattle.world.specs.History.{Event, Run, Item, given, settling, on-states, taken, tick, settles, act, run, InForce, AllAlong}
-use Rattle.effects.specs.Views.{messages, Process, process, Ground, ground, Still, place}
+use Rattle.world.specs.Local.{received-local}
+use Rattle.effects.specs.Views.{place-local, messages, Process, process, Ground, ground, Still, place}
 use Rattle.effects.specs.Cascade.{cascade-still}
-use Rattle.effects.specs.Arrival.{mark-cases, hold-cases, marked-held, arrived, arrived-process, arrived-ground}
-use Rattle.effects.specs.Holding.{loss-needs, arrival-ground, arrived-held, trusted-held, chosen-accepted}
+use Rattle.effects.specs.Arrival.{received-scene, received-process, received-ground}
+use Rattle.effects.specs.Holding.{loss-needs, arrival-ground, received-to, trusted-held}
 use Rattle.order.specs.Knowledge.{knowledge}
 use Rattle.order.specs.Counters.{OneMore}
 use Rattle.order.specs.Multicast.{one-more}
 use Rattle.order.specs.Runs.{with-history, Whole, cascade-begins, whole-step, whole-act}
-use Rattle.agreement.specs.Letters.{Mark, Net}
-use Rattle.agreement.specs.Arrivals.{marked-on, arrived-net, lost-net, crashed-net, trusted-net, multicast-net}
+use Rattle.agreement.specs.Letters.{Net}
+use Rattle.agreement.specs.Arrivals.{marked-on, received-net, lost-net, crashed-net, trusted-net, multicast-net}
 use Rattle.agreement.specs.Turns.{names-same, Covers, Vouched, vouched, TrustedAt, Trusted, Pending, delivered, not-in-turn, unmarked, IdleAt, Live, live-cascade}
 
 -- ---- trust sets
@@ -46,57 +47,26 @@ in-force-same live s t e f p q hp hq u l =
 -- ---- an arrival, up to its cascade
 module _ (s : State) (k m q p : ℕ) where
   -- a process that it is not for has no part in it
-  aside-arrived : (r : ℕ) → p ≢ r → place (arrived s k m q p) r ≡ place s r
-  unfolding put leave
-  aside-arrived r n = λ j. record {
-    size = arrived-ground s k m q p j .size;
-    messages = arrived-ground s k m q p j .messages;
-    groups = arrived-ground s k m q p j .group;
-    own = arrived-process s k m q p r j;
-    trust = arrived-ground s k m q p j .trust r;
-    held = λ x. held-there x j;
-    marks = λ x. marks-there x j;
-  }
-    where
-      held-there : (x : ℕ) → arrived s k m q p (held r x) ≡ s (held r x)
-      held-there x =
-          hold-cases (λ t. t (held r x) ≡ s (held r x)) (mark (leave s k m q p) k m q p) p m
-          (λ _. marked-held s k m q p r x)
-          (λ _. put-other (mark (leave s k m q p) k m q p) (held p m) (held r x) 1 (λ e. n (cc))
-          ∙ marked-held s k m q p r x)
-
-      marks-there : (x : ℕ) → arrived s k m q p (marks r x) ≡ s (marks r x)
-      marks-there x =
-          hold-cases (λ t. t (marks r x) ≡ s (marks r x)) (mark (leave s k m q p) k m q p) p m (λ _. there)
-          (λ _. there)
-        where
-          there : mark (leave s k m q p) k m q p (marks r x) ≡ s (marks r x)
-          there = mark-cases (λ t. t (marks r x) ≡ s (marks r x)) (leave s k m q p) k m q p
-              (λ _. put-other (leave s k m q p) (marks p m) (marks r x) _ (λ e. n (cc))) (λ _. refl)
-
-  -- no mark is taken away
-  marks-on : (r x o : ℕ) → Mark s r x o → Mark (arrived s k m q p) r x o
-  unfolding put
-  marks-on r x o z =
-      hold-cases (λ t. Mark t r x o) (mark (leave s k m q p) k m q p) p m (λ _. marked-on s k m q p r x o z)
-      (λ _. marked-on s k m q p r x o z)
+  aside-received : (r : ℕ) → p ≢ r → place (received s k m q p) r ≡ place s r
+  aside-received r n =
+      place-local s (received s k m q p) r (λ c o. received-local p r n c o s k m q) (received-ground s k m q p)
 
   -- what trust gives stays
-  arrived-trusted : (live : ℕ → Bool) → Trusted live s → Trusted live (arrived s k m q p)
-  arrived-trusted live tr r x o f ho lo a =
-      let g = arrived-ground s k m q p in
-      go (tr r x o (subst (λ (v : Process). In (v .fifo-length) (v .fifo) x) (arrived-process s k m q p r) f)
+  received-trusted : (live : ℕ → Bool) → Trusted live s → Trusted live (received s k m q p)
+  received-trusted live tr r x o f ho lo a =
+      let g = received-ground s k m q p in
+      go (tr r x o (subst (λ (v : Process). In (v .fifo-length) (v .fifo) x) (received-process s k m q p r) f)
       (omega (arith, ap (λ (v : Ground). v .size) g)) lo
       (sym (ap (λ (v : Ground). bit (v .messages .mask x) (v .group o)) g) ∙ a))
     where
       go : Vouched live (s size) (λ u. s (group u)) (s (marks r x)) o
-          → Vouched live (arrived s k m q p size) (λ u. arrived s k m q p (group u))
-          (arrived s k m q p (marks r x)) o
+          → Vouched live (received s k m q p size) (λ u. received s k m q p (group u))
+          (received s k m q p (marks r x)) o
       go (vouched u hu lu gu mu) =
-          let g = arrived-ground s k m q p in
+          let g = received-ground s k m q p in
           vouched u (omega (arith, ap (λ (v : Ground). v .size) g)) lu
           (ap (λ (v : Ground). v .group u) g ∙ gu ∙ sym (ap (λ (v : Ground). v .group o) g))
-          (marks-on r x u mu)
+          (marked-on s k m q p r x u mu)
 
 -- ---- every accepted step
 module _ (live : ℕ → Bool) (s : State) (es : List Event) (w : Whole (with-history s es))
@@ -113,8 +83,8 @@ module _ (live : ℕ → Bool) (s : State) (es : List Event) (w : Whole (with-hi
         pending r x hx′ (v .idle r hr x hx′ h);
     trusted = λ r x q f hq lq a.
         let hx : x < s count =
-        elim f [ in-at i h e ↦ subst (λ (z : ℕ). z < s count) e (w .meaning .each r .fifo-log .old i h) ] in
-        v .trusted r x q f hq lq (subst (λ (z : ℕ). bit z (s (group q)) ≡ true) (o .old-mask x hx) a);
+        elim f [ in-at i h e ↦ rw e at (w .meaning .each r .fifo-log .old i h) ] in
+        v .trusted r x q f hq lq (rw (o .old-mask x hx) at a);
   }
     where
       o : OneMore (messages s) (knowledge es) p groups (messages (multicast s p groups))
@@ -127,8 +97,7 @@ module _ (live : ℕ → Bool) (s : State) (es : List Event) (w : Whole (with-hi
           (λ e. d
           (sym (o .old-number x (s (group r)) hx) ∙ e
           ∙ ap (λ (z : ℕ). s (next r z)) (o .old-sender x hx)))
-      pending r x hx (unmarked q hq b a d) =
-          unmarked q hq b (subst (λ (z : ℕ). bit z (s (group q)) ≡ true) (sym (o .old-mask x hx)) a) d
+      pending r x hx (unmarked q hq b a d) = unmarked q hq b (rw (o .old-mask x hx) a) d
 
   -- an arrival
   arrival-live : (k m q p : ℕ) → accepted s (arrives k m q p) ≡ true → Covers live s p
@@ -136,16 +105,15 @@ module _ (live : ℕ → Bool) (s : State) (es : List Event) (w : Whole (with-hi
   unfolding arrival
   arrival-live k m q p e c =
       let l = accepted-arrival s k m q p e .letter in
-      let g = arrived-ground s k m q p in
-      live-cascade live p (s (causal-length p)) es (arrived s k m q p) (arrived-held s (w .sound) k m q p l)
-      (cascade-begins s (arrived s k m q p) es (ap (λ (v : Ground). v .messages) g)
-      (ap (λ (v : Ground). v .size) g) (arrived-process s k m q p) p (w .meaning) (w .quiet))
-      (λ x hx lx. names-same live s (arrived s k m q p) p x g
+      let g = received-ground s k m q p in
+      live-cascade live p (s (causal-length p)) es (received s k m q p) (received-to s (w .sound) k m q p l)
+      (cascade-begins s (received s k m q p) es (received-scene s k m q p) p (w .meaning) (w .quiet))
+      (λ x hx lx. names-same live s (received s k m q p) p x g
       (c x (omega (arith, ap (λ (v : Ground). v .size) g)) lx))
-      (arrived-net s k m q p l (w .sound) (w .meaning .each p .fifo-log)
+      (received-net s k m q p l (w .sound) (w .meaning .each p .fifo-log)
       (w .meaning .counting .numbers m (s (group p)) (l .message)) (v .net))
-      (arrived-trusted s k m q p live (v .trusted))
-      (λ r hr n. subst IdleAt (sym (aside-arrived s k m q p r n))
+      (received-trusted s k m q p live (v .trusted))
+      (λ r hr n. subst IdleAt (sym (aside-received s k m q p r n))
       (v .idle r (omega (arith, ap (λ (v : Ground). v .size) g))))
 
   -- a trust step, whose new set names enough
@@ -153,9 +121,9 @@ module _ (live : ℕ → Bool) (s : State) (es : List Event) (w : Whole (with-hi
   unfolding trust-set put
   trust-live p set hp c =
       live-cascade live p (s (causal-length p)) es (put s (trust p) set) (trusted-held s (w .sound) p set hp)
-      (cascade-begins s (put s (trust p) set) es refl refl (λ r. refl) p (w .meaning) (w .quiet)) c
+      (cascade-begins s (put s (trust p) set) es refl p (w .meaning) (w .quiet)) c
       (trusted-net s p set (v .net))
-      (v .trusted) (λ r hr n. subst IdleAt (sym (aside r n)) (v .idle r hr))
+      (v .trusted) (λ r hr n. rw (aside r n) (v .idle r hr))
     where
       aside : (r : ℕ) → p ≢ r → place (put s (trust p) set) r ≡ place s r
       aside r n = λ j. record {
@@ -253,7 +221,7 @@ live-act live r (given bytes) w v f f′ = go (accepted (r .now) (read bytes)) r
 live-act live r (settling b) w v f f′ =
     settle-keeps (λ t. lowest (t .now)) (λ t k m q p. taken on-states t (arrives k m q p)) (During live r)
     (λ t k m q p e d. arrival-during live r t k m q p f
-    (chosen-accepted (t .now) k m q p (lowest-moves (t .now) k m q p e)) d) b 0 r
+    (moves-taken (t .now) k m q p (lowest-moves (t .now) k m q p e)) d) b 0 r
     (record { whole = w; lives = v; ground-is = refl }) .lives
 
 -- the trust sets are in force where a list begins, and where it ends

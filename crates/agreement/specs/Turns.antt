@@ -2,33 +2,32 @@
 -- every trusted addressee, so of a live one of each group that its process's trust set names (Trusted, for
 -- any set of live processes). At the end nothing is ready at its process: each message that it holds is in
 -- the FIFO log, not in turn, or unmarked (Idle). Assumes nothing.
-use mathlib.Core.Path.{_≡_, refl, sym, ap, ap₂, _∙_, subst, subst₂}
-use mathlib.Core.Bool.{Bool, true, false, not, _&&_}
+use mathlib.Core.Path.{_≡_, refl, sym, ap, ap₂, _∙_, subst}
+use mathlib.Core.Bool.{Bool, true, false, not}
 use mathlib.Core.List.{List}
 use mathlib.Core.Logic.{_⊎_, inl, inr, _≢_}
-use Prim.Native.Nat.{ℕ, _+_, _-_, _≤_, _<_}
+use Prim.Native.Nat.{ℕ, _-_, _≤_, _<_}
 use native.Mathlib.Omega.{arith}
 use native.Mathlib.Decide.{ℕ-discrete}
-use lib.Dec.{eqb}
 use borrow.Author.Tests.{eq-eqb, not-true}
 use Rattle.base.specs.Tests.{le-or-lt, clash, both, both-l, both-r, both-i, either, either-e, at-or-off}
 use Rattle.base.specs.Loop.{loop-keeps}
-use Rattle.base.specs.Search.{every, every-true, every-false}
+use Rattle.base.specs.Search.{every-true, every-false}
 use Rattle.base.specs.Count.{In, in-at, in-dec, out-absent}
 use Rattle.base.specs.Bits.{bit}
 use Rattle.world.specs.World.{size, count, group, trust, up, fifo-length, next, held, marks, fifo, sender, mask, number, State}
-use Rattle.world.specs.Machine.{addressed, in-turn, outside-fifo, marked, ready, fifo-one, cascade}
+use Rattle.world.specs.Machine.{addressed, marked, ready, fifo-one, cascade}
 use Rattle.world.specs.History.{Event, Names, names}
 use Rattle.world.specs.Fuel.{cascade-quiet}
 use Rattle.effects.specs.Views.{Process, Ground, ground, Still, Place, place-of, place}
 use Rattle.effects.specs.Views.{still as still-view}
-use Rattle.effects.specs.Cascade.{Near, turn-number, turn-next, Front, fifo-one-front, next-cases, NewOk, ok-sent, letter-cases, fifo-one-still, fifo-one-there}
+use Rattle.effects.specs.Cascade.{Near, turn-near, Front, fifo-one-front, next-cases, ok-sent, letter-cases, fifo-one-still, fifo-one-there}
 use Rattle.effects.specs.Holding.{HeldTo}
 use Rattle.effects.specs.Spent.{turn-once}
 use Rattle.order.specs.Logs.{item-cases}
 use Rattle.order.specs.Cascade.{Fifo, MeaningOf, Ready, ready-facts, Cascading, cascading-more}
 use Rattle.effects.specs.Arrival.{Held, Fly}
-use Rattle.agreement.specs.Letters.{Mark, Net, still, Progress, net-progress}
+use Rattle.agreement.specs.Letters.{Mark, Net, still, ToAll, Progress, net-progress}
 use Rattle.agreement.specs.Arrivals.{in-addressees}
 
 -- ---- a turn of the cascade
@@ -40,10 +39,6 @@ module _ (t : State) (p m : ℕ) (y : Ready t p m) (es : List Event) (o : Meanin
   -- to whom a message is
   turn-to : (x r : ℕ) → addressed (fifo-one t p m) x r ≡ addressed t x r
   turn-to x r = ap (λ (s : Still). bit (s .ground .messages .mask x) (s .ground .group r)) same
-
-  -- its sender
-  turn-sender : (x : ℕ) → fifo-one t p m (sender x) ≡ t (sender x)
-  turn-sender x = ap (λ (s : Still). s .ground .messages .sender x) same
 
   -- the number of processes
   turn-size : fifo-one t p m size ≡ t size
@@ -61,91 +56,67 @@ module _ (t : State) (p m : ℕ) (y : Ready t p m) (es : List Event) (o : Meanin
   turn-marks : (r x : ℕ) → fifo-one t p m (marks r x) ≡ t (marks r x)
   turn-marks r x = ap (λ (s : Still). s .marks r x) same
 
-  -- a message that came in turn by this turn is one for which p sends an OK
+  -- x was in turn at r or past it, or comes in turn now, and then p sends its OK
   newly-near : (x r : ℕ) → x < t count → Held t r x → Near (fifo-one t p m) x r
-      → t (next r (t (sender x))) < t (number x (t (group r)))
-      → (p ≡ r) × NewOk t p m x
-  newly-near x r hx h n far = go (next-cases t p m r (t (sender x)))
-    where
-      go : (fifo-one t p m (next r (t (sender x))) ≡ t (next r (t (sender x))))
-          ⊎ ((p ≡ r) × (t (sender m) ≡ t (sender x))
-          × (fifo-one t p m (next r (t (sender x))) ≡ t (next r (t (sender x))) + 1))
-          → (p ≡ r) × NewOk t p m x
-      go (inl a) = absurd (omega (arith, turn-number t p m x r, turn-next t p m x r, a))
-      go (inr a) =
-          let at-r : t (number x (t (group r))) ≡ t (next r (t (sender x))) + 1 =
-          omega (arith, turn-number t p m x r, turn-next t p m x r, a .2) in (
-            a .0,
-            record {
-              low = hx;
-              has = subst (λ (z : ℕ). Held t z x) (sym (a .0)) h;
-              of = sym (a .1);
-              turn =
-                  subst₂ (λ (z q : ℕ). t (number x (t (group z))) ≡ t (next z q) + 1) (sym (a .0))
-                  (sym (a .1)) at-r;
-            },
-          )
+      → ((x < t count) × Held t r x × Near t x r)
+      ⊎ ToAll (fifo-one t p m) x r (λ r u. Fly (fifo-one t p m) x 2 r u)
+  newly-near x r hx h n =
+      next-cases t p m
+      (λ z q v. t (sender x) ≡ q → Held t z x → t (number x (t (group z))) ≤ v
+      → ((x < t count) × Held t z x × (t (number x (t (group z))) ≤ t (next z q)))
+      ⊎ ToAll (fifo-one t p m) x z (λ z u. Fly (fifo-one t p m) x 2 z u))
+      (λ _ _ _ h l. inl (hx, h, l))
+      (λ e h l. elim (le-or-lt (t (number x (t (group p)))) (t (next p (t (sender m))))) [
+        | inl a ↦ inl (hx, h, a)
+        | inr a ↦ inr (λ u hu au.
+            rw (ok-sent t p m x (record { low = hx; has = h; of = e; turn = omega arith }))
+            (in-addressees t x u (omega (arith, turn-size)) (sym (turn-to x u) ∙ au)))
+      ])
+      r (t (sender x)) refl h (rw (turn-near t p m x r) at n)
 
   -- the item of a FIFO log is an old one, or m in that of p
-  log-cases : (r i : ℕ) → i < fifo-one t p m (fifo-length r)
-      → ((i < t (fifo-length r)) × (fifo-one t p m (fifo r i) ≡ t (fifo r i)))
-      ⊎ ((p ≡ r) × (fifo-one t p m (fifo r i) ≡ m))
-  log-cases r i h = at-or-off p (λ z. i < fifo-one t p m (fifo-length z)
-      → ((i < t (fifo-length z)) × (fifo-one t p m (fifo z i) ≡ t (fifo z i)))
-      ⊎ ((p ≡ z) × (fifo-one t p m (fifo z i) ≡ m)))
+  item-now : (P : ℕ → ℕ → ℕ → Type 0) → ((r i : ℕ) → i < t (fifo-length r) → P r i (t (fifo r i)))
+      → ((i : ℕ) → P p i m) → (r i : ℕ) → i < fifo-one t p m (fifo-length r)
+      → P r i (fifo-one t p m (fifo r i))
+  item-now P old new r i h =
+      at-or-off p (λ z. i < fifo-one t p m (fifo-length z) → P z i (fifo-one t p m (fifo z i)))
       (λ l.
       let f = fifo-one-front t p m in
-      let item = ap (λ (w : Front). w .fifo i) f in
-      elim (item-cases (t (fifo-length p)) (λ j. t (fifo p j)) m i
+      rw (ap (λ (w : Front). w .fifo i) f)
+      (elim (item-cases (t (fifo-length p)) (λ j. t (fifo p j)) m i
       (omega (arith, ap (λ (w : Front). w .fifo-length) f))) [
-        | inl a ↦ inl (a .0, item ∙ a .1)
-        | inr a ↦ inr (refl, item ∙ a .1)
-      ])
+        | inl a ↦ rw (a .1) (old p i (a .0))
+        | inr a ↦ rw (a .1) (new i)
+      ]))
       (λ z n l.
       let e = fifo-one-there t p m z n in
-      inl (omega (arith, ap (λ (w : Process). w .fifo-length) e), ap (λ (w : Process). w .fifo i) e)) r h
+      rw (ap (λ (w : Process). w .fifo i) e) (old z i (omega (arith, ap (λ (w : Process). w .fifo-length) e))))
+      r h
 
   -- a turn loses no letter and sends what it owes
   turn-progress : Progress t (fifo-one t p m)
   turn-progress = record {
     same-size = turn-size;
     same-to = λ x r _. turn-to x r;
-    same-sender = λ x _. turn-sender x;
+    same-sender = λ x _. ap (λ (s : Still). s .ground .messages .sender x) same;
     once = turn-once t p m;
-    mark-on = λ x r u _ _ z. subst (λ (w : ℕ). bit w r ≡ true) (sym (turn-marks u x)) z;
+    mark-on = λ x r u _ _ z. rw (turn-marks u x) z;
     down-on = λ r d e. d (sym (ap (λ (s : Still). s .ground .up r) same) ∙ e);
-    flown = λ x k r u hx hr hu a z. elim (letter-cases t p m x k r) [
-      | inl c ↦ still (subst (λ (w : ℕ). bit w u ≡ true) (sym (c .3)) (in-addressees t x u hu a))
-      | inr c ↦ still (subst (λ (w : ℕ). bit w u ≡ true) (sym c) z)
-    ];
+    flown = λ x k r u hx hr hu a z. still (letter-cases t p m x (λ k r v. Fly t x k r u → bit v u ≡ true)
+        (λ _ _ f. f) (λ _ _. in-addressees t x u hu a) k r z);
     old-ok = λ x r u hx _ _ _. omega (arith, turn-count);
     new-mark =
         λ x r u hx hr hu z. inl
-        (omega (arith, turn-count), subst (λ (w : ℕ). bit w r ≡ true) (turn-marks u x) z);
+        (omega (arith, turn-count), rw (turn-marks u x) at z);
     new-holder = λ x r hx hr h. inl (omega (arith, turn-count), sym (turn-held r x) ∙ h);
-    new-near = λ x r hx hr h n. nears x r (omega (arith, turn-count)) (sym (turn-held r x) ∙ h) n
-        (le-or-lt (t (number x (t (group r)))) (t (next r (t (sender x)))));
+    new-near = λ x r hx hr h n. newly-near x r (omega (arith, turn-count)) (sym (turn-held r x) ∙ h) n;
     new-message = λ x hx. inl (omega (arith, turn-count));
-    logged = λ r i hr hi. elim (log-cases r i hi) [
-      | inl a ↦ inl (a .0, a .1, o .each r .fifo-log .old i (a .0))
-      | inr a ↦ inr
-          (subst₂ (λ (z w : ℕ). Held (fifo-one t p m) z w) (a .0) (sym (a .1)) (turn-held p m ∙ y .has))
-    ];
+    logged = λ r i hr hi. item-now
+        (λ r i z. ((i < t (fifo-length r)) × (z ≡ t (fifo r i)) × (t (fifo r i) < t count))
+        ⊎ Held (fifo-one t p m) r z)
+        (λ r i h. inl (h, refl, o .each r .fifo-log .old i h)) (λ _. inr (turn-held p m ∙ y .has)) r i hi;
     senders = o .counting .senders;
   }
-    where
-      nears : (x r : ℕ) → x < t count → Held t r x → Near (fifo-one t p m) x r
-          → (t (number x (t (group r))) ≤ t (next r (t (sender x))))
-          ⊎ (t (next r (t (sender x))) < t (number x (t (group r))))
-          → ((x < t count) × Held t r x × Near t x r)
-          ⊎ ((u : ℕ) → u < fifo-one t p m size → addressed (fifo-one t p m) x u ≡ true
-          → Fly (fifo-one t p m) x 2 r u)
-      nears x r hx h n (inl l) = inl (hx, h, l)
-      nears x r hx h n (inr l) =
-          let c = newly-near x r hx h n l in
-          inr (λ u hu a. subst (λ (z : ℕ). Fly (fifo-one t p m) x 2 z u) (c .0)
-          (subst (λ (w : ℕ). bit w u ≡ true) (sym (ok-sent t p m x (c .1)))
-          (in-addressees t x u (omega (arith, turn-size)) (sym (turn-to x u) ∙ a))))
 
   -- so it keeps what letters tell
   pub turn-net : Net t → Net (fifo-one t p m)
@@ -190,7 +161,7 @@ pub names-same : (live : ℕ → Bool) (s t : State) (p q : ℕ) → ground t �
 names-same live s t p q e (names r hr lr gr br) =
     names r (omega (arith, ap (λ (g : Ground). g .size) e)) lr
     (ap (λ (g : Ground). g .group r) e ∙ gr ∙ sym (ap (λ (g : Ground). g .group q) e))
-    (subst (λ (w : ℕ). bit w r ≡ true) (sym (ap (λ (g : Ground). g .trust p) e)) br)
+    (rw (ap (λ (g : Ground). g .trust p) e) br)
 
 -- so where these are as they were, a trust set names as much
 pub covers-same : (live : ℕ → Bool) (s t : State) (p : ℕ) → ground t ≡ ground s → Covers live s p
@@ -204,7 +175,9 @@ turn-trusted : (live : ℕ → Bool) (t : State) (p m : ℕ) (y : Ready t p m) (
     → Trusted live t → Trusted live (fifo-one t p m)
 turn-trusted live t p m y es o c tr r x q (in-at i h e) hq lq a =
     subst (λ (v : Still). Vouched live (v .ground .size) (v .ground .group) (v .marks r x) q)
-    (sym (fifo-one-still t p m)) (go (log-cases t p m y es o r i h))
+    (sym (fifo-one-still t p m))
+    (item-now t p m y es o (λ r i z. z ≡ x → Vouched live (t size) (λ u. t (group u)) (t (marks r x)) q)
+    (λ r i l e. tr r x q (in-at i l e) hq′ lq a′) (λ _ e. rw e at (new-one (c q hq′ lq) (rw e a′))) r i h e)
   where
     hq′ : q < t size
     hq′ = omega (arith, turn-size t p m y es o)
@@ -214,18 +187,7 @@ turn-trusted live t p m y es o c tr r x q (in-at i h e) hq lq a =
 
     new-one : Names live t p q → addressed t m q ≡ true
         → Vouched live (t size) (λ u. t (group u)) (t (marks p m)) q
-    new-one (names u hu lu gu bu) am =
-        vouched u hu lu gu
-        (ready-marks t p m y u hu bu (subst (λ (g : ℕ). bit (t (mask m)) g ≡ true) (sym gu) am))
-
-    go : ((i < t (fifo-length r)) × (fifo-one t p m (fifo r i) ≡ t (fifo r i)))
-        ⊎ ((p ≡ r) × (fifo-one t p m (fifo r i) ≡ m))
-        → Vouched live (t size) (λ u. t (group u)) (t (marks r x)) q
-    go (inl b) = tr r x q (in-at i (b .0) (sym (b .1) ∙ e)) hq′ lq a′
-    go (inr b) =
-        let mx : m ≡ x = sym (b .1) ∙ e in
-        subst₂ (λ (z w : ℕ). Vouched live (t size) (λ u. t (group u)) (t (marks z w)) q) (b .0) mx
-        (new-one (c q hq′ lq) (subst (λ (w : ℕ). addressed t w q ≡ true) (sym mx) a′))
+    new-one (names u hu lu gu bu) am = vouched u hu lu gu (ready-marks t p m y u hu bu (rw gu am))
 
 -- ---- why a held message is not delivered: it is, it is not in turn, or a trusted addressee's mark is
 -- missing
@@ -262,20 +224,15 @@ not-ready s p m e h =
         unmarked q hq (both-l (bit (s (trust p)) q) (addressed s m q) (d .0))
         (both-r (bit (s (trust p)) q) (addressed s m q) (d .0)) (d .1)
 
-    last : (a b c d : Bool) → a ≡ true → b ≡ true → c ≡ true → (a && b && c && d) ≡ false → d ≡ false
-    last true true true d x y z w = w
-    last true true false d x y z w = clash z refl
-    last true false c d x y z w = clash y refl
-    last false b c d x y z w = clash x refl
-
     go : Dec (Fifo s p m) → Dec (s (number m (s (group p))) ≡ s (next p (s (sender m))))
         → Pending (place s p) m
     go (yes x) d = delivered x
     go (no x) (no d) = not-in-turn d
-    go (no x) (yes d) = found (every-false (s size) (marked s p m)
-        (last (eqb (s (held p m)) 1) (outside-fifo s p m) (in-turn s p m) (every (s size) (marked s p m))
-        (eq-eqb (s (held p m)) 1 h)
-        (out-absent x) (eq-eqb (s (number m (s (group p)))) (s (next p (s (sender m)))) d) e))
+    go (no x) (yes d) = found (every-false (s size) (marked s p m) (simp (
+      eq-eqb (s (held p m)) 1 h,
+      out-absent x,
+      eq-eqb (s (number m (s (group p)))) (s (next p (s (sender m)))) d,
+    ) at e))
 
 -- ---- the cascade
 -- what holds of a state for a set of live processes
@@ -300,7 +257,7 @@ live-cascade live p a es b h c cov n tr idle =
     loop-keeps (λ u. u count) (λ u. ready u p) (λ u. fifo-one u p) (Turning live p a es b)
     (λ u m hm e _ k.
     let y = ready-facts u p m e in
-    let o = k .cascading .meaning in
+    let o = k .cascading .order .meaning in
     record {
       cascading = cascading-more p a es b u h m hm y (k .cascading);
       net = turn-net u p m y _ o (k .net);
@@ -308,7 +265,7 @@ live-cascade live p a es b h c cov n tr idle =
           turn-trusted live u p m y _ o
           (covers-same live b u p (ap (λ (v : Still). v .ground) (k .cascading .same)) cov) (k .trusted);
     }) (b count - b (fifo-length p)) b (record { cascading = c; net = n; trusted = tr }) in
-    let log = c .meaning .each p .fifo-log in
+    let log = c .order .meaning .each p .fifo-log in
     record {
       net = end .net;
       idle = λ r hr. at-or-off p (λ x. x < cascade b p size → Idle (cascade b p) x)

@@ -6,10 +6,10 @@ use Prim.Native.Nat.{ℕ}
 use lib.Dec.{eqb}
 use lib.ListN.{length}
 use Rattle.base.specs.Tests.{clash}
-use Rattle.world.specs.World.{held, State, encode, view, Changes}
-use Rattle.world.specs.Layout.{encode-view}
-use Rattle.world.specs.Machine.{ready, leave, mark, hold, arrival}
-use Rattle.keeps.specs.Cascade.{received}
+use Rattle.world.specs.World.{held, State, put, encode, view, Changes}
+use Rattle.world.specs.Layout.{encode-view, put-same}
+use Rattle.world.specs.Kept.{hold-cases}
+use Rattle.world.specs.Machine.{ready, leave, mark, hold, received, arrival}
 use Rattle.quiescence.specs.Quiescent.{Quiescent, QuiescentIf, MarkOnly, cascade-none, received-quiescent}
 use Rattle.receiving.specs.Receiving.{hold-held}
 
@@ -20,6 +20,13 @@ pub received-law : (w u1 u2 u3 : List ℕ) (k m q p : ℕ) → length w ≡ 2048
     → Changes u1 u2 (λ s. mark s k m q p) → Changes u2 u3 (λ s. hold s p m)
     → u3 ≡ encode (received (view w) k m q p)
 received-law w u1 u2 u3 k m q p l c1 c2 c3 = c3 _ (c2 _ (c1 (view w) (sym (encode-view w l))))
+
+-- the message is held then
+pub received-held : (s : State) (k m q p : ℕ) → received s k m q p (held p m) ≡ 1
+unfolding put
+received-held s k m q p =
+    hold-cases (λ t. t (held p m) ≡ 1) (mark (leave s k m q p) k m q p) p m (λ e. e)
+    (λ _. put-same (mark (leave s k m q p) k m q p) (held p m) (held p m) 1 refl)
 
 -- at a quiescent process the cascade has nothing to do if m is not ready; and only m may be
 pub over-law : (s : State) (k m q p : ℕ) → Quiescent s p → ready (received s k m q p) p m ≡ false

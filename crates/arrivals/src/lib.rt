@@ -21,7 +21,7 @@ pub fn arrive(w: &mut [u16], k: usize, m: usize, q: usize, p: usize, quiescent: 
         cascade::cascade_all(w, p);
         return false;
     }
-    if !ready::is_ready(w, p, m) {
+    if !ready::is_ready_held(w, p, m) {
         return held;
     }
     cascade::cascade_from(w, p, m, true);

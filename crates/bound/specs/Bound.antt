@@ -33,6 +33,11 @@ sum-passing (suc n) a f = go (f n) (sum-passing n a f)
     go true e = omega arith
     go false e = omega arith
 
+-- and another test passes too
+sum-both : (n a : ℕ) (b : Bool) (f : ℕ → Bool) → sum n (λ r. pick (both b (f r)) a 0) ≡ pick b (a * tally n f) 0
+sum-both n a true f = sum-passing n a f
+sum-both n a false f = omega (arith, sum-passing n 0 (λ r. true))
+
 -- at most one number is x
 tally-one : (n x : ℕ) → tally n (λ q. eqb q x) ≤ 1
 unfolding tally
@@ -96,31 +101,16 @@ module _ (s : State) (h : Sound s) (m : ℕ) (hm : m < s count) where
     -- from one origin
     from-few : (q : ℕ) → q < s size
         → from-one (s size) s m k q ≤ pick (sends (frame s) m k q) (c * addressee-count s m) 0
-    from-few q hq = go (sends (frame s) m k q) refl
+    from-few q hq =
+        omega (
+          arith,
+          sum-mono (s size) (cost s k m q) (λ u. pick (may k q u) c 0) (λ u hu. each u hu (may k q u) refl),
+          sum-both (s size) c (sends (frame s) m k q) (addressed s m),
+        )
       where
-        each : (b : Bool) → sends (frame s) m k q ≡ b → (u : ℕ) → u < s size
-            → cost s k m q u ≤ pick (both b (addressed s m u)) c 0
-        each b e u hu = one (both b (addressed s m u)) refl
-          where
-            one : (d : Bool) → both b (addressed s m u) ≡ d → cost s k m q u ≤ pick d c 0
-            one true z = few q u hq hu
-            one false z =
-                omega (arith, no-cost k q u hk hq hu (ap (λ (x : Bool). both x (addressed s m u)) e ∙ z))
-
-        go : (b : Bool) → sends (frame s) m k q ≡ b
-            → from-one (s size) s m k q ≤ pick b (c * addressee-count s m) 0
-        go true e =
-            omega (
-              arith,
-              sum-mono (s size) (cost s k m q) (λ u. pick (addressed s m u) c 0) (each true e),
-              sum-passing (s size) c (addressed s m),
-            )
-        go false e =
-            omega (
-              arith,
-              sum-mono (s size) (cost s k m q) (λ u. pick true 0 0) (each false e),
-              sum-passing (s size) 0 (λ u. true),
-            )
+        each : (u : ℕ) → u < s size → (b : Bool) → may k q u ≡ b → cost s k m q u ≤ pick b c 0
+        each u hu true e = few q u hq hu
+        each u hu false e = omega (arith, no-cost k q u hk hq hu e)
 
     -- from all of them
     kind-few : of-kind (s size) s m k ≤ c * addressee-count s m * tally (s size) (sends (frame s) m k)
@@ -172,7 +162,10 @@ pub reached-potential : (s : State) → Sound s → ((k m q u : ℕ) → Fly s m
 unfolding potential cost
 reached-potential s h spent =
     sum-mono (s count) (of-message (s size) s) (λ m. ceiling (addressee-count s m))
-    (λ m hm. omega (arith, message-few s h m hm 1 (λ k q u _ _. once k m q u (bool-cases (bit (s (flight m k q)) u)))))
+    (λ m hm. omega (
+      arith,
+      message-few s h m hm 1 (λ k q u _ _. once k m q u (bool-cases (bit (s (flight m k q)) u))),
+    ))
   where
     once : (k m q u : ℕ) → (bit (s (flight m k q)) u ≡ true) ⊎ (bit (s (flight m k q)) u ≡ false)
         → one (bit (s (flight m k q)) u) + one (owed s k m q u) ≤ 1

@@ -1,7 +1,7 @@
 -- Each letter flies at most once: once it has left flight, by arriving or by being lost, it never flies
 -- again, whatever items follow. For every letter in flight is spent, and none that is spent is sent (Spent).
 -- Assumes nothing.
-use mathlib.Core.List.{List, []}
+use mathlib.Core.List.{List}
 use mathlib.Core.Logic.{inl, inr}
 use Prim.Native.Nat.{ℕ, _-_}
 use Rattle.base.specs.Tests.{clash}

@@ -3,7 +3,7 @@
 -- message, an OK while its origin does not hold it in turn or past it. What is sent was not sent before and is
 -- now (Once), so that no step but a multicast raises the potential; an arrival lowers it by one at least.
 -- Assumes nothing.
-use mathlib.Core.Path.{_≡_, refl, sym, ap, ap₂, _∙_, subst, subst₂}
+use mathlib.Core.Path.{_≡_, refl, sym, ap, ap₂, _∙_}
 use mathlib.Core.Bool.{Bool, true, false, not}
 use mathlib.Core.Logic.{_⊎_, inl, inr}
 use Prim.Native.Nat.{ℕ, zero, suc, _+_, _≤_, _<_}
@@ -40,13 +40,12 @@ pub sum-falls : (n : ℕ) (f g : ℕ → ℕ) → ((i : ℕ) → i < n → f i �
     → sum n f < sum n g
 unfolding sum
 sum-falls zero f g h j l e = absurd (not-suc-le-zero l)
-sum-falls (suc n) f g h j l e = go (ℕ-discrete j n) (λ k. sum-falls n f g (λ i a. h i (omega arith)) j k e)
-  where
-    go : Dec (j ≡ n) → (j < n → sum n f < sum n g) → sum n f + f n < sum n g + g n
-    go (yes q) ih =
-        let e′ : f n < g n = subst (λ (x : ℕ). f x < g x) q e in
-        omega (arith, sum-mono n f g (λ i a. h i (omega arith)))
-    go (no q) ih = omega (arith, ih (omega arith), h n (omega arith))
+sum-falls (suc n) f g h j l e = elim (ℕ-discrete j n) [
+  | yes q ↦
+      let e′ : f n < g n = rw q at e in
+      omega (arith, sum-mono n f g (λ i a. h i (omega arith)))
+  | no q ↦ omega (arith, sum-falls n f g (λ i a. h i (omega arith)) j (omega arith) e, h n (omega arith))
+]
 
 -- ---- the potential
 -- A: the number of m's addressees
@@ -110,6 +109,13 @@ if-sent s (suc (suc k)) m q x =
           (both-r (eqb (s (held q m)) 1) near x),
     )
 
+-- what is not sent passes the test of what is owed
+unsent : (s : State) (k m q : ℕ) → (¬ SentBy s k m q) → not (sent s k m q) ≡ true
+unsent s k m q n = elim (bool-cases (sent s k m q)) [
+  | inl x ↦ absurd (n (if-sent s k m q x))
+  | inr x ↦ ap not x
+]
+
 -- ---- a change that sends no letter twice raises no letter's part
 -- where it passes, and where it fails
 one-yes : {b : Bool} → b ≡ true → one b ≡ 1
@@ -142,15 +148,10 @@ module _ {s t : State} (o : Once s t) (e : ground t ≡ ground s) (h : Sound t) 
   owed-back : (k m q u : ℕ) → m < s count → owed t k m q u ≡ true → owed s k m q u ≡ true
   owed-back k m q u hm z =
       both-i (not (sent s k m q)) (both (addressed s m q) (addressed s m u))
-      (not-sent (bool-cases (sent s k m q)))
+      (unsent s k m q (λ x. clash (sent-if t k m q (spent-on o k m q (hm, x) .1))
+      (not-true (sent t k m q) (both-l (not (sent t k m q)) (both (addressed t m q) (addressed t m u)) z))))
       (sym (ap₂ both (to-same m q) (to-same m u))
       ∙ both-r (not (sent t k m q)) (both (addressed t m q) (addressed t m u)) z)
-    where
-      not-sent : (sent s k m q ≡ true) ⊎ (sent s k m q ≡ false) → not (sent s k m q) ≡ true
-      not-sent (inr x) = ap not x
-      not-sent (inl x) =
-          clash (sent-if t k m q (spent-on o k m q (hm, if-sent s k m q x) .1))
-          (not-true (sent t k m q) (both-l (not (sent t k m q)) (both (addressed t m q) (addressed t m u)) z))
 
   -- no letter's part is raised
   pub cost-lower : (k m q u : ℕ) → k < 3 → m < s count → q < s size → u < s size
@@ -173,15 +174,11 @@ module _ {s t : State} (o : Once s t) (e : ground t ≡ ground s) (h : Sound t) 
           let d = letter-facts t h (suc j) m q u l (omega (arith, count-high t h))
           (omega (arith, size-is, size-high t h)) (omega (arith, size-is, size-high t h)) f in
           both-i (not (sent s (suc j) m q)) (both (addressed s m q) (addressed s m u))
-          (unsent (bool-cases (sent s (suc j) m q)))
+          (unsent s (suc j) m q (λ x. n (hm, x)))
           (both-i (addressed s m q) (addressed s m u)
           (sym (to-same m q)
           ∙ both-r (ltb q (t size)) (addressed t m q) (sym (sends-later t m j q) ∙ d .from))
           (sym (to-same m u) ∙ both-r (ltb u (t size)) (addressed t m u) (d .to)))
-        where
-          unsent : (sent s (suc j) m q ≡ true) ⊎ (sent s (suc j) m q ≡ false) → not (sent s (suc j) m q) ≡ true
-          unsent (inl x) = absurd (n (hm, if-sent s (suc j) m q x))
-          unsent (inr x) = ap not x
 
 -- ---- so the potential falls, where one letter's part does
 pub potential-falls : (s t : State) → t count ≡ s count → t size ≡ s size
@@ -190,8 +187,7 @@ pub potential-falls : (s t : State) → t count ≡ s count → t size ≡ s siz
     → potential t < potential s
 unfolding potential
 potential-falls s t ec ez low k m q u hk hm hq hu less =
-    subst₂ (λ (c i : ℕ). sum c (of-message i t) < sum (s count) (of-message n s)) (sym ec) (sym ez)
-    (sum-falls (s count) (of-message n t) (of-message n s)
+    rw (ec, ez) (sum-falls (s count) (of-message n t) (of-message n s)
     (λ x hx. sum-mono 3 (of-kind n t x) (of-kind n s x) (λ j hj. kinds j x hj hx)) m hm
     (sum-falls 3 (of-kind n t m) (of-kind n s m) (λ j hj. kinds j m hj hm) k hk
     (sum-falls n (from-one n t m k) (from-one n s m k) (λ r hr. ones k m r hk hm hr) q hq

@@ -2,7 +2,7 @@
 -- potential, and with a budget of at least that it says done, with no letter left to move. For any choice of
 -- the next letter that names only letters that can move, and names nothing only where none can; document 01's
 -- choice of the lowest is one. Assumes nothing.
-use mathlib.Core.Path.{_≡_, refl, ap, subst}
+use mathlib.Core.Path.{_≡_, refl, ap}
 use mathlib.Core.List.{List}
 use Prim.Native.Nat.{ℕ, zero, suc, _+_, _*_, _≤_, _<_}
 use native.Mathlib.Omega.{arith}
@@ -11,12 +11,12 @@ use Rattle.world.specs.Sound.{Sound}
 use Rattle.world.specs.Setup.{setup-refusal}
 use Rattle.world.specs.Machine.{leave, arrival}
 use Rattle.world.specs.Steps.{arrives, step}
-use Rattle.world.specs.StepLaws.{Moves, Chosen, lowest-chosen}
+use Rattle.world.specs.StepLaws.{Moves, Chosen, lowest-chosen, moves-taken}
 use Rattle.world.specs.Settle.{Choice, letter, nothing, lowest, Ending, done, stopped, Settled, settle-from, settle}
 use Rattle.world.specs.History.{Item, on-states, run, started}
 use Rattle.keeps.specs.Keeps.{fresh-sound, step-sound, run-sound}
 use Rattle.effects.specs.Views.{Ground}
-use Rattle.effects.specs.Holding.{chosen-accepted, arrival-ground}
+use Rattle.effects.specs.Holding.{arrival-ground}
 use Rattle.effects.specs.Spent.{arrived-once, step-once}
 use Rattle.bound.specs.Once.{flying-spent}
 use Rattle.bound.specs.Potential.{sum, addressee-count, potential, cost-lower, potential-falls, leave-falls}
@@ -84,7 +84,7 @@ module _ (s : State) (k m q p : ℕ) (h : Sound s) (a : Moves s k m q p) where
   -- its arrival leaves the world sound
   sound-arrival : Sound (arrival s k m q p)
   unfolding step
-  sound-arrival = step-sound s (arrives k m q p) (chosen-accepted s k m q p a) h
+  sound-arrival = step-sound s (arrives k m q p) (moves-taken s k m q p a) h
 
   -- and lowers the potential
   pub moved-falls : potential (arrival s k m q p) < potential s
@@ -94,7 +94,7 @@ module _ (s : State) (k m q p : ℕ) (h : Sound s) (a : Moves s k m q p) where
       let g = arrival-ground s k m q p in
       potential-falls s (arrival s k m q p) (ap (λ (v : Ground). v .messages .total) g)
       (ap (λ (v : Ground). v .size) g)
-      (cost-lower (step-once s (arrives k m q p) (chosen-accepted s k m q p a)) g sound-arrival) k m q p
+      (cost-lower (step-once s (arrives k m q p) (moves-taken s k m q p a)) g sound-arrival) k m q p
       (l .kind) (l .message) (l .from) (l .to)
       (omega (
         arith,
@@ -109,7 +109,7 @@ module _ (choose : State → Choice) (good : (s : State) → Chosen s (choose s)
       → Ended choose arrival Sound potential b 0 s (settle-from choose arrival b 0 s)
   choice-ends s b h =
       settle-ends choose arrival Sound potential
-      (λ t k m q p e z. moved t k m q p (subst (Chosen t) e (good t)) z) b 0 s h
+      (λ t k m q p e z. moved t k m q p (rw e at (good t)) z) b 0 s h
     where
       moved : (t : State) (k m q p : ℕ) → Moves t k m q p → Sound t
           → Falls choose arrival Sound potential t (arrival t k m q p)
@@ -157,11 +157,14 @@ module _ (setup : List ℕ) (items : List Item) (ok : setup-refusal setup ≡ 0)
   pub reached-settle-bound : (b : ℕ) → arrivals (settle (run on-states (started setup) items .now) b .ending)
       ≤ sum (run on-states (started setup) items .now count)
       (λ m. ceiling (addressee-count (run on-states (started setup) items .now) m))
-  reached-settle-bound b =
-      omega (arith, ended end b sound-end .few, few)
+  reached-settle-bound b = omega (arith, ended end b sound-end .few, few)
+
+  -- so at most 33,792
+  pub reached-settle-most : (b : ℕ)
+      → arrivals (settle (run on-states (started setup) items .now) b .ending) ≤ 33792
+  reached-settle-most b = omega (arith, ended end b sound-end .few, reached-low)
 
   -- a settle with at least 33,792 arrivals says done, without the trust rule
   pub reached-settle-done : (b : ℕ) → 33792 ≤ b
       → SaysDone (settle (run on-states (started setup) items .now) b .ending)
-  reached-settle-done b l =
-      ended end b sound-end .finishes (omega (arith, reached-low)) .0
+  reached-settle-done b l = ended end b sound-end .finishes (omega (arith, reached-low)) .0

@@ -1,13 +1,13 @@
--- What the calls give on the words of a sound state: the refusals, the steps, settle's arrivals and answer, and
--- the logs are the state's. What is read off those words agrees with the state on the layout (Same), which is
--- all that the refusals, the steps and the choice of the lowest letter look at. Assumes nothing.
+-- What the calls give on the words of a sound state: the refusals, the steps and the logs are the state's. What is
+-- read off those words agrees with the state on the layout (Same), which is all that the refusals, the steps and
+-- the choice of the lowest letter look at. Assumes nothing.
 use mathlib.Core.Path.{_≡_, refl, sym, ap, ap₂, _∙_}
 use mathlib.Core.Bool.{Bool, true, false, not, _&&_}
 use mathlib.Core.List.{List, []}
 use Prim.Native.Nat.{ℕ, _-_, _^_, _<_}
 use native.Mathlib.Omega.{arith}
 use lib.Dec.{ltb, eqb}
-use lib.ListN.{length, take, drop}
+use lib.ListN.{length, take, drop, getD}
 use borrow.Author.Tests.{ltb-true, eq-eqb, lt-ltb}
 use Rattle.base.specs.Tests.{pick, both-l, both-r, clash}
 use Rattle.base.specs.Refusals.{needs}
@@ -19,14 +19,13 @@ use Rattle.world.specs.Sound.{Sound, sound}
 use Rattle.world.specs.SoundLaws.{size-high, count-high, group-high, sender-high, fifo-length-high, causal-length-high, fifo-high, sound-words, facts-sound}
 use Rattle.world.specs.Setup.{setup-refusal, made}
 use Rattle.world.specs.Steps.{Step, multicasts, arrives, loses, trusts, crashes, malformed, read, has-group, good-mask, is-up, in-flight, refusal, accepted, step, is-process, after}
-use Rattle.world.specs.StepLaws.{accepted-multicast, accepted-arrival, accepted-loss, accepted-trust, lowest-moves, moves-taken}
-use Rattle.world.specs.Settle.{Choice, letter, nothing, moves, receiver, origin, kind, movable, letter-of, lowest, settle}
-use Rattle.world.specs.SettleLaws.{Alike, settle-related}
-use Rattle.world.specs.Words.{needs-world, making-refusal, made-words, gives, reply, step-refusal, stepped-words, settle-words, settled-words, settle-reply, log-length, log-start, log-refusal, log-words}
-use Rattle.keeps.specs.Keeps.{step-sound}
+use Rattle.world.specs.StepLaws.{accepted-multicast, accepted-arrival, accepted-loss, accepted-trust}
+use Rattle.world.specs.Settle.{Choice, letter, nothing, moves, receiver, origin, kind, movable, letter-of, lowest}
+use Rattle.world.specs.Words.{needs-world, making-refusal, made-words, step-refusal, stepped-words, log-length, log-start, log-refusal, log-words}
 use Rattle.carried.specs.Same.{Fits, Agree, same, process-low, message-low, leave-agree, arrival-agree, trust-agree, crash-agree, multicast-agree}
-use Rattle.base.specs.Tabulate.{tabulate}
-use Rattle.world.specs.Machine.{arrival}
+use Rattle.base.specs.Tabulate.{tabulate, length-tabulate, getD-tabulate}
+use Rattle.base.specs.Count.{In, in-at}
+use Rattle.world.specs.Demand.{Listed}
 
 -- ---- refusals
 needs-same : (n : ℕ) {b b′ : Bool} {x x′ : ℕ} → b ≡ b′ → (b ≡ true → x ≡ x′) → needs n b x ≡ needs n b′ x′
@@ -119,8 +118,7 @@ module _ {s t : State} (a : Agree s t) where
   step-agree (loses k m q p) e =
       let y = accepted-loss s k m q p e in
       leave-agree k m q p (y .kind) (message-low a m (y .message)) (process-low a q (y .from)) a
-  step-agree (trusts p set) e =
-      trust-agree p set (process-low a p (accepted-trust s p set e .process)) a
+  step-agree (trusts p set) e = trust-agree p set (process-low a p (accepted-trust s p set e .process)) a
   step-agree (crashes p) e = crash-agree p a
   step-agree malformed e = a
 
@@ -218,7 +216,8 @@ sound-fits s h (next p q) w = tt
 sound-fits s h (delivered p q) w = tt
 sound-fits s h (up p) w = tt
 sound-fits s h (fifo-length p) w = omega (arith, fifo-length-high s h p w, count-high s h)
-sound-fits s h (causal-length p) w = omega (arith, causal-length-high s h p w, fifo-length-high s h p w, count-high s h)
+sound-fits s h (causal-length p) w =
+    omega (arith, causal-length-high s h p w, fifo-length-high s h p w, count-high s h)
 sound-fits s h (held p m) w = tt
 sound-fits s h (marks p m) w = tt
 sound-fits s h (fifo p i) w = fifo-high s h p i (w .0) (w .1)
@@ -272,49 +271,6 @@ module _ (s : State) (h : Sound s) where
       choice true e = same-words (step-agree (view-agree s h) (read bytes) e)
       choice false e = refl
 
--- ---- a settle: the same letters arrive
-record Settling (s : State) (w : List ℕ) : Type 0 where
-  pub words : w ≡ encode s
-  pub sound-s : Sound s
-
-module _ (s : State) (w : List ℕ) (c : Settling s w) where
-  same-letter : lowest s ≡ lowest (view w)
-  same-letter =
-      lowest-agree (view-agree s (c .sound-s))
-      ∙ ap (λ (u : List ℕ). lowest (view u)) (sym (c .words))
-
-  arrives-carried : (k m q p : ℕ) → lowest s ≡ letter k m q p
-      → Settling (arrival s k m q p) (encode (arrival (view w) k m q p))
-  unfolding step
-  arrives-carried k m q p e =
-      let ok = moves-taken s k m q p (lowest-moves s k m q p e) in
-      record {
-        words =
-            ap (λ (u : List ℕ). encode (arrival (view u) k m q p)) (c .words)
-            ∙ same-words (step-agree (view-agree s (c .sound-s)) (arrives k m q p) ok);
-        sound-s = step-sound s (arrives k m q p) ok (c .sound-s);
-      }
-
-module _ (s : State) (h : Sound s) (b : ℕ) where
-  both : Alike Settling (settle s b) (settle-words (encode s) b)
-  unfolding settle settle-words
-  both =
-      settle-related lowest arrival (λ w. lowest (view w)) (λ w k m q p. encode (arrival (view w) k m q p))
-      Settling same-letter (λ t w k m q p c e. arrives-carried t w c k m q p e) b 0 s (encode s)
-      (record { words = refl; sound-s = h })
-
-  pub settle-carried : settled-words (encode s) b ≡ encode (settle s b .world)
-  unfolding settled-words
-  settle-carried =
-      ap (λ (n : ℕ). pick (eqb n 0) (settle-words (encode s) b .world) (encode s)) (sound-world s h 0)
-      ∙ both .worlds .words
-
-  pub reply-carried : settle-reply (encode s) b ≡ gives (settle s b .ending)
-  unfolding settle-reply
-  reply-carried =
-      ap (λ (n : ℕ). reply n (settle-words (encode s) b .ending)) (sound-world s h 0)
-      ∙ ap gives (sym (both .endings))
-
 -- ---- making a world
 pub making-carried : (w bytes : List ℕ) → length w ≡ 20480 → making-refusal w bytes ≡ setup-refusal bytes
 unfolding making-refusal
@@ -366,3 +322,15 @@ module _ (s : State) (h : Sound s) (p : ℕ) (hp : p < s size) where
       ap₂ (λ (n l : ℕ). pick (eqb n 0) (take l (drop (log-start p log) (encode s))) []) log-taken
       (read-length log)
       ∙ part log
+
+-- ---- a log as a list
+pub listed-in : {n m : ℕ} {log : ℕ → ℕ} {xs : List ℕ} → xs ≡ tabulate n log → Listed xs m → In n log m
+listed-in {n} {m} {log} {xs} e (in-at i l d) =
+    let k : i < n = omega (arith, ap length e, length-tabulate n log) in
+    in-at i k (sym (getD-tabulate n log i 0 k) ∙ ap (λ (l : List ℕ). getD l i 0) (sym e) ∙ d)
+
+-- and the other way round
+pub in-listed : {n m : ℕ} {log : ℕ → ℕ} {xs : List ℕ} → xs ≡ tabulate n log → In n log m → Listed xs m
+in-listed {n} {m} {log} {xs} e (in-at i l d) =
+    in-at i (omega (arith, ap length e, length-tabulate n log))
+    (ap (λ (l : List ℕ). getD l i 0) e ∙ getD-tabulate n log i 0 l ∙ d)

@@ -1,9 +1,9 @@
 -- The run over lent words is the run over states: the words are the words of its state, and the events are
 -- the same. Assumes nothing.
-use mathlib.Core.Path.{_≡_, refl, sym, ap, ap₂, _∙_, subst}
+use mathlib.Core.Path.{_≡_, refl, sym, ap, ap₂, _∙_}
 use mathlib.Core.Bool.{Bool, true, false, _&&_}
 use mathlib.Core.List.{List, [], _∷_}
-use Prim.Native.Nat.{ℕ, zero, suc, _+_, _-_, _≤_, _<_}
+use Prim.Native.Nat.{ℕ, zero, suc, _+_, _-_, _≤_}
 use native.Mathlib.Omega.{arith}
 use lib.Dec.{eqb}
 use lib.ListN.{length}
@@ -14,25 +14,17 @@ use Rattle.world.specs.Sound.{Sound}
 use Rattle.world.specs.SoundLaws.{size-high}
 use Rattle.world.specs.Setup.{setup-refusal, made}
 use Rattle.world.specs.Steps.{Step, multicasts, arrives, loses, trusts, crashes, malformed, read, accepted, step}
-use Rattle.world.specs.StepLaws.{lowest-moves}
-use Rattle.world.specs.Settle.{lowest, settle-from}
+use Rattle.world.specs.StepLaws.{lowest-moves, moves-taken}
+use Rattle.world.specs.Settle.{lowest, Settled, settle-from, settle}
 use Rattle.world.specs.SettleLaws.{Alike, settle-related}
-use Rattle.world.specs.Words.{making-refusal, made-words}
-use Rattle.world.specs.History.{Event, sent, got, deliveries, grown, gained, casted, on-states, on-words, Run, Item, given, settling, taken, tick, settles, act, run, started, started-words}
+use Rattle.world.specs.Words.{gives, reply, making-refusal, made-words, settle-words, settled-words, settle-reply}
+use Rattle.world.specs.History.{Event, sent, deliveries, grown, gained, casted, Engine, on-states, on-words, Run, Item, given, settling, taken, tick, settles, act, run, started, started-words}
 use Rattle.keeps.specs.Keeps.{step-sound, run-sound}
-use Rattle.effects.specs.Holding.{chosen-accepted}
+use Rattle.effects.specs.Events.{deliveries-same}
 use Rattle.carried.specs.Same.{Agree, same}
 use Rattle.carried.specs.Calls.{view-agree, same-words, refusal-agree, step-agree, lowest-agree, sound-world}
 
 -- ---- the events
-deliveries-same : (p a n : ℕ) (f g : ℕ → ℕ) (es : List Event) → ((i : ℕ) → i < n → f (a + i) ≡ g (a + i))
-    → deliveries p a n f es ≡ deliveries p a n g es
-unfolding deliveries
-deliveries-same p a zero f g es h = refl
-deliveries-same p a (suc n) f g es h =
-    ap₂ (λ (x : ℕ) (l : List Event). got p x ∷ l) (h n (omega arith))
-    (deliveries-same p a n f g es (λ i l. h i (omega arith)))
-
 module _ {s s′ t t′ : State} (a : Agree s s′) (b : Agree t t′) where
   gained-agree : (n : ℕ) (es : List Event) → n ≤ 16 → gained n s t es ≡ gained n s′ t′ es
   unfolding gained
@@ -65,36 +57,20 @@ written r = record { now = encode (r .now); seen = r .seen }
 -- an accepted step
 taken-carried : (r : Run State) (x : Step) → accepted (r .now) x ≡ true → Sound (r .now)
     → taken on-words (written r) x ≡ written (taken on-states r x)
-taken-carried r x e h = go
+taken-carried r x e h =
+    ap (λ (w : List ℕ). record { now = w; seen = gained (v size) v (view w) (casted x v (r .seen)) })
+    (same-words (step-agree a x e))
+    ∙ ap (λ (l : List Event). record { now = encode (step (r .now) x); seen = l })
+    (ap₂ (λ (n : ℕ) (es : List Event). gained n v (view (encode (step (r .now) x))) es) (sym (same a size tt))
+    (sym (casted-agree x (r .seen) a))
+    ∙ sym (gained-agree a (view-agree (step (r .now) x) (step-sound (r .now) x e h)) (r .now size)
+    (casted x (r .now) (r .seen)) (size-high (r .now) h)))
   where
-    s : State
-    s = r .now
+    v : State
+    v = view (encode (r .now))
 
     a : Agree (r .now) (view (encode (r .now)))
     a = view-agree (r .now) h
-
-    now-same : encode (step (view (encode (r .now))) x) ≡ encode (step (r .now) x)
-    now-same = same-words (step-agree a x e)
-
-    after-same : Agree (step (r .now) x) (view (encode (step (view (encode (r .now))) x)))
-    after-same =
-        subst (λ (w : List ℕ). Agree (step (r .now) x) (view w)) (sym now-same)
-        (view-agree (step (r .now) x) (step-sound (r .now) x e h))
-
-    seen-same : gained (view (encode (r .now)) size) (view (encode (r .now)))
-        (view (encode (step (view (encode (r .now))) x)))
-        (casted x (view (encode (r .now))) (r .seen))
-        ≡ gained (r .now size) (r .now) (step (r .now) x) (casted x (r .now) (r .seen))
-    seen-same =
-        ap₂
-        (λ (n : ℕ) (es : List Event). gained n (view (encode (r .now)))
-        (view (encode (step (view (encode (r .now))) x))) es)
-        (sym (same a size tt)) (sym (casted-agree x (r .seen) a))
-        ∙ sym
-        (gained-agree a after-same (r .now size) (casted x (r .now) (r .seen)) (size-high (r .now) h))
-
-    go : taken on-words (written r) x ≡ written (taken on-states r x)
-    go = λ i. record { now = now-same i; seen = seen-same i }
 
 -- whatever is given as a step
 tick-carried : (r : Run State) (x : Step) → Sound (r .now)
@@ -110,24 +86,25 @@ tick-carried r x h =
     go true e = taken-carried r x e h
     go false e = refl
 
--- a settle of related runs
+-- ---- a settle of runs: the same letters arrive
 pub record Carried (r : Run State) (t : Run (List ℕ)) : Type 0 where
   pub same : t ≡ written r
   pub sound : Sound (r .now)
 
--- the same letters arrive
-pub settle-carried : (r : Run State) (b : ℕ) → Sound (r .now)
-    → Alike Carried
-    (settle-from (λ t. lowest (t .now)) (λ t k m q p. taken on-states t (arrives k m q p)) b 0 r)
-    (settle-from (λ t. lowest (view (t .now))) (λ t k m q p. taken on-words t (arrives k m q p)) b 0
-    (written r))
-settle-carried r b h =
+-- the settle of a run, over states or over words
+abbrev pub settle-run : {S : Type 0} → Engine S → Run S → ℕ → Settled (Run S)
+settle-run e r b =
+    settle-from (λ t. lowest (e .reads (t .now))) (λ t k m q p. taken e t (arrives k m q p)) b 0 r
+
+pub settle-related-runs : (r : Run State) (b : ℕ) → Sound (r .now)
+    → Alike Carried (settle-run on-states r b) (settle-run on-words (written r) b)
+settle-related-runs r b h =
     settle-related (λ t. lowest (t .now)) (λ t k m q p. taken on-states t (arrives k m q p))
     (λ t. lowest (view (t .now))) (λ t k m q p. taken on-words t (arrives k m q p)) Carried
     (λ t u c. lowest-agree (view-agree (t .now) (c .sound))
     ∙ ap (λ (v : Run (List ℕ)). lowest (view (v .now))) (sym (c .same)))
     (λ t u k m q p c e.
-    let ok = chosen-accepted (t .now) k m q p (lowest-moves (t .now) k m q p e) in
+    let ok = moves-taken (t .now) k m q p (lowest-moves (t .now) k m q p e) in
     record {
       same = ap (λ (v : Run (List ℕ)). taken on-words v (arrives k m q p)) (c .same)
           ∙ taken-carried t (arrives k m q p) ok (c .sound);
@@ -135,6 +112,50 @@ settle-carried r b h =
     })
     b 0 r (written r) (record { same = refl; sound = h })
 
+-- it is the settle of what there is now
+pub settle-now : {S : Type 0} (e : Engine S) (r : Run S) (b : ℕ)
+    → Alike (λ t s. t .now ≡ s) (settle-run e r b)
+    (settle-from (λ s. lowest (e .reads s)) (λ s k m q p. e .does s (arrives k m q p)) b 0 (r .now))
+settle-now {S} e r b =
+    settle-related (λ t. lowest (e .reads (t .now))) (λ t k m q p. taken e t (arrives k m q p))
+    (λ s. lowest (e .reads s)) (λ s k m q p. e .does s (arrives k m q p)) (λ t s. t .now ≡ s)
+    (λ t s d. ap (λ (u : S). lowest (e .reads u)) d)
+    (λ t s k m q p d _. ap (λ (u : S). e .does u (arrives k m q p)) d) b 0 r (r .now) refl
+
+-- what the call gives on the words of a run
+module _ (r : Run State) (h : Sound (r .now)) (b : ℕ) where
+  pub settled-sound : Sound (settle-run on-states r b .world .now)
+  settled-sound = settle-related-runs r b h .worlds .sound
+
+  pub settled-carried : settled-words (encode (r .now)) b ≡ encode (settle-run on-states r b .world .now)
+  unfolding settled-words settle-words step
+  settled-carried =
+      ap (λ (n : ℕ). pick (eqb n 0) (settle-words (encode (r .now)) b .world) (encode (r .now)))
+      (sound-world (r .now) h 0)
+      ∙ sym (settle-now on-words (written r) b .worlds)
+      ∙ ap (λ (t : Run (List ℕ)). t .now) (settle-related-runs r b h .worlds .same)
+
+  pub answer-carried : settle-reply (encode (r .now)) b ≡ gives (settle-run on-states r b .ending)
+  unfolding settle-reply settle-words step
+  answer-carried =
+      ap (λ (n : ℕ). reply n (settle-words (encode (r .now)) b .ending)) (sound-world (r .now) h 0)
+      ∙ ap gives (sym (settle-now on-words (written r) b .endings) ∙ sym (settle-related-runs r b h .endings))
+
+-- and on the words of a state
+module _ (s : State) (h : Sound s) (b : ℕ) where
+  -- it, with no history
+  abbrev alone : Run State
+  alone = record { now = s; seen = [] }
+
+  pub settle-carried : settled-words (encode s) b ≡ encode (settle s b .world)
+  unfolding settle step
+  settle-carried = settled-carried alone h b ∙ ap encode (settle-now on-states alone b .worlds)
+
+  pub reply-carried : settle-reply (encode s) b ≡ gives (settle s b .ending)
+  unfolding settle step
+  reply-carried = answer-carried alone h b ∙ ap gives (settle-now on-states alone b .endings)
+
+-- ---- lists
 -- an item
 pub act-carried : (r : Run State) (i : Item) → Sound (r .now)
     → act on-words (written r) i ≡ written (act on-states r i)
@@ -144,7 +165,7 @@ act-carried r (settling b) h =
     ap (λ (n : ℕ). pick (eqb n 0) (settle-from (λ t. lowest (view (t .now)))
     (λ t k m q p. taken on-words t (arrives k m q p)) b 0 (written r) .world) (written r))
     (sound-world (r .now) h 0)
-    ∙ settle-carried r b h .worlds .same
+    ∙ settle-related-runs r b h .worlds .same
 
 -- an item keeps the state sound
 pub act-sound : (r : Run State) (i : Item) → Sound (r .now) → Sound (act on-states r i .now)

@@ -3,10 +3,10 @@
 -- holds one that the layout has (Fits); every store keeps that, since the fuel of the two loops is the room
 -- that the logs have. Assumes nothing.
 use mathlib.Core.Path.{_≡_, refl, sym, ap, ap₂, _∙_, subst}
-use mathlib.Core.Bool.{Bool, true, false, not, _&&_, _||_}
+use mathlib.Core.Bool.{Bool, true, false, _&&_}
 use Prim.Native.Nat.{ℕ, zero, suc, _+_, _-_, _≤_, _<_, max}
 use native.Mathlib.Omega.{arith}
-use lib.Dec.{leb, eqb}
+use lib.Dec.{eqb}
 use Rattle.base.specs.Tests.{pick}
 use Rattle.base.specs.Search.{every, every-cong}
 use Rattle.base.specs.Loop.{loop, loop-related}
@@ -60,7 +60,7 @@ put-agree {s} {t} c d v w ec ev f a =
         (λ n. a .at e i .0 ∙ sym (put-other t c e v n))
 
     fit : (e : Cell) → Within e → Fits e (put s c v e)
-    fit e i = put-at s c e v (Fits e) (λ q. subst (λ (x : Cell). Fits x v) q f) (λ _. a .at e i .1)
+    fit e i = put-at s c e v (Fits e) (λ q. rw q at f) (λ _. a .at e i .1)
 
 -- a choice between two
 pick-agree : {s t s′ t′ : State} (b b′ : Bool) → b ≡ b′ → Agree s t → Agree s′ t′
@@ -124,7 +124,7 @@ module _ {s t : State} (a : Agree s t) where
 
   -- to whom a message is
   to-agree : (m q : ℕ) → m < 64 → q < 16 → addressed s m q ≡ addressed t m q
-  to-agree m q hm hq = ap₂ bit (same (mask m) hm) (same (group q) hq)
+  to-agree m q hm hq = rw (same (mask m) hm, same (group q) hq)
 
   -- the addressees
   all-agree : (m : ℕ) → m < 64 → addressees s m ≡ addressees t m
@@ -135,51 +135,45 @@ module _ {s t : State} (a : Agree s t) where
   module _ (p : ℕ) (hp : p < 16) where
     -- what stands in the entry of p's group
     number-agree : (m : ℕ) → m < 64 → s (number m (s (group p))) ≡ t (number m (t (group p)))
-    number-agree m hm =
-        same (number m (s (group p))) (hm, a .at (group p) hp .1)
-        ∙ ap (λ (g : ℕ). t (number m g)) (same (group p) hp)
+    number-agree m hm = rw (same (number m (s (group p))) (hm, a .at (group p) hp .1), same (group p) hp)
 
     -- for a sender too
     stamp-agree : (m q : ℕ) → m < 64 → q < 16 → s (stamp m (s (group p)) q) ≡ t (stamp m (t (group p)) q)
     stamp-agree m q hm hq =
-        same (stamp m (s (group p)) q) (hm, a .at (group p) hp .1, hq)
-        ∙ ap (λ (g : ℕ). t (stamp m g q)) (same (group p) hp)
+        rw (same (stamp m (s (group p)) q) (hm, a .at (group p) hp .1, hq), same (group p) hp)
 
     -- the tests
     turn-agree : (m : ℕ) → m < 64 → in-turn s p m ≡ in-turn t p m
     turn-agree m hm =
-        ap₂ eqb (number-agree m hm)
-        (same (next p (s (sender m))) (hp, a .at (sender m) hm .1)
-        ∙ ap (λ (q : ℕ). t (next p q)) (same (sender m) hm))
+        rw (
+          number-agree m hm,
+          same (next p (s (sender m))) (hp, a .at (sender m) hm .1),
+          same (sender m) hm,
+        )
 
     held-agree : (m : ℕ) → m < 64 → eqb (s (held p m)) 1 ≡ eqb (t (held p m)) 1
     held-agree m hm = ap (λ (v : ℕ). eqb v 1) (same (held p m) (hp, hm))
 
     due-agree : (q m : ℕ) → m < 64 → due s p q m ≡ due t p q m
     unfolding due
-    due-agree q m hm =
-        ap₂ (λ (x y : Bool). x && y)
-        (ap₂ (λ (x y : Bool). x && y) (held-agree m hm) (ap (λ (y : ℕ). eqb y q) (same (sender m) hm)))
-        (turn-agree m hm)
+    due-agree q m hm = rw (turn-agree m hm, same (held p m) (hp, hm), same (sender m) hm)
 
     ready-agree : (m : ℕ) → m < 64 → ready s p m ≡ ready t p m
     unfolding ready
     ready-agree m hm =
-        ap₂ (λ (x y : Bool). x && y)
-        (ap₂ (λ (x y : Bool). x && y)
-        (ap₂ (λ (x y : Bool). x && y) (held-agree m hm)
-        (absent-cong (s (fifo-length p)) (t (fifo-length p)) m (λ i. s (fifo p i)) (λ i. t (fifo p i))
-        (same (fifo-length p) hp)
-        (λ i l. same (fifo p i) (omega (arith, a .at (fifo-length p) hp .1)))))
-        (turn-agree m hm))
-        (every-cong (s size) (marked s p m) (marked t p m) (λ q l. mark-agree q (process-low q l))
-        ∙ ap (λ (n : ℕ). every n (marked t p m)) (same size tt))
+        rw (
+          turn-agree m hm,
+          same (held p m) (hp, hm),
+          absent-cong (s (fifo-length p)) (t (fifo-length p)) m (λ i. s (fifo p i)) (λ i. t (fifo p i))
+              (same (fifo-length p) hp)
+              (λ i l. same (fifo p i) (omega (arith, a .at (fifo-length p) hp .1))),
+          every-cong (s size) (marked s p m) (marked t p m) (λ q l. mark-agree q (process-low q l)),
+          same size tt,
+        )
       where
         mark-agree : (q : ℕ) → q < 16 → marked s p m q ≡ marked t p m q
         mark-agree q hq =
-            ap₂ (λ (x y : Bool). not x || y)
-            (ap₂ (λ (x y : Bool). x && y) (ap (λ (v : ℕ). bit v q) (same (trust p) hp)) (to-agree m q hm hq))
-            (ap (λ (v : ℕ). bit v q) (same (marks p m) (hp, hm)))
+            rw (same (trust p) hp, same (mask m) hm, same (group q) hq, same (marks p m) (hp, hm))
 
     deliverable-agree : (i : ℕ) → i < 64 → deliverable-at s p i ≡ deliverable-at t p i
     unfolding deliverable-at deliverable
@@ -198,8 +192,7 @@ module _ {s t : State} (a : Agree s t) where
         fit-agree : (q : ℕ) → q < 16 → fits s p (s (fifo p i)) q ≡ fits t p (s (fifo p i)) q
         fit-agree q hq =
             let hm = a .at (fifo p i) (hp, hi) .1 in
-            ap₂ (λ (x y : Bool). x || y) (ap (eqb q) (same (sender m) hm))
-            (ap₂ leb (stamp-agree m q hm hq) (same (delivered p q) (hp, hq)))
+            rw (same (sender m) hm, stamp-agree m q hm hq, same (delivered p q) (hp, hq))
 
 -- ---- causal deliveries
 one-agree : {s t : State} (p i : ℕ) → p < 16 → i < 64 → s (causal-length p) < 64 → Agree s t

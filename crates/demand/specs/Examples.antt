@@ -1,14 +1,14 @@
 -- Runs that meet the hypotheses of demand 3, computed on states: one in which a message is overtaken by one
 -- that it precedes, and waits; and one in which a process crashes and the trust rule holds, so that the FIFO
 -- logs agree after a settle. Assumes nothing.
-use mathlib.Core.Path.{_≡_, refl, sym, ap, _∙_, subst}
+use mathlib.Core.Path.{_≡_, refl, sym}
 use mathlib.Core.Bool.{Bool, true, false, _&&_}
 use mathlib.Core.List.{List, [], _∷_}
 use Prim.Native.Nat.{ℕ, _<_}
 use native.Mathlib.Decide.{ℕ-discrete}
 use native.Mathlib.Omega.{arith}
 use lib.Dec.{eqb}
-use Rattle.base.specs.Tests.{clash}
+use Rattle.base.specs.Tests.{clash, at-or-off}
 use Rattle.base.specs.Search.{every, some, first-from}
 use Rattle.base.specs.Count.{absent}
 use Rattle.base.specs.Loop.{chosen, loop}
@@ -125,23 +125,10 @@ crashing =
     ∷ given (4 ∷ 1 ∷ 2 ∷ 0 ∷ 0 ∷ 0 ∷ 0 ∷ 0 ∷ [])
     ∷ []
 
--- both trust 1: then the trust sets name a live process for the only group
-both-trust : (s : State) → s size ≡ 2 → s (group 0) ≡ s (group 1) → bit (s (trust 0)) 1 ≡ true
-    → bit (s (trust 1)) 1 ≡ true → (live : ℕ → Bool) → live 1 ≡ true → InForce live s
-both-trust s z g t0 t1 live l p q hp hq u lq =
-    names 1 (omega arith) l (same-group (ℕ-discrete 1 q)) (trusts (ℕ-discrete 1 p))
-  where
-    trusts : Dec (1 ≡ p) → bit (s (trust p)) 1 ≡ true
-    trusts (yes e) = subst (λ (x : ℕ). bit (s (trust x)) 1 ≡ true) e t1
-    trusts (no n) =
-        let e : 0 ≡ p = omega arith in
-        subst (λ (x : ℕ). bit (s (trust x)) 1 ≡ true) e t0
-
-    same-group : Dec (1 ≡ q) → s (group 1) ≡ s (group q)
-    same-group (yes e) = ap (λ (x : ℕ). s (group x)) e
-    same-group (no n) =
-        let e : 0 ≡ q = omega arith in
-        sym g ∙ ap (λ (x : ℕ). s (group x)) e
+-- what holds of 0 and 1 holds below 2
+two : (P : ℕ → Type 0) → P 0 → P 1 → (x : ℕ) → x < 2 → P x
+two P a b x h =
+    at-or-off 0 (λ y. y < 2 → P y) (λ _. a) (λ y n l. let e : 1 ≡ y = omega arith in rw e at b) x h
 
 -- the runs after no, one, two, three and all four steps
 abbrev r₀ : Run State
@@ -159,9 +146,20 @@ r₂ = act on-states r₁ (arriving 0 0 0 1)
 abbrev r₃ : Run State
 r₃ = act on-states r₂ (given (5 ∷ 0 ∷ 0 ∷ 0 ∷ 0 ∷ 0 ∷ 0 ∷ 0 ∷ []))
 
--- after the trust step
+-- after all of them
 abbrev r₄ : Run State
-r₄ = act on-states r₃ (given (4 ∷ 1 ∷ 2 ∷ 0 ∷ 0 ∷ 0 ∷ 0 ∷ 0 ∷ []))
+r₄ = run on-states (started pair) crashing
+
+-- both trust 1, which is up at the end and of the only group
+abbrev Both : State → Type 0
+Both s =
+    (s size ≡ 2) × (s (group 0) ≡ s (group 1)) × (bit (s (trust 0)) 1 ≡ true) × (bit (s (trust 1)) 1 ≡ true)
+
+-- then the trust sets name a live process for it
+both-trust : (live : ℕ → Bool) → live 1 ≡ true → (s : State) → Both s → InForce live s
+both-trust live l s (z, g, t0, t1) p q hp hq u lq =
+    names 1 (omega arith) l (two (λ x. s (group 1) ≡ s (group x)) (sym g) refl q (omega arith))
+    (two (λ x. bit (s (trust x)) 1 ≡ true) t0 t1 p (omega arith))
 
 -- the trust rule holds
 pub crash-rule : TrustRule on-states (started pair) crashing
@@ -171,42 +169,25 @@ unfolding ℕ-discrete every some first-from absent chosen loop bit with without
     setup-bits setup-group made read has-group good-mask refusal step tick act run gained deliveries AllAlong
 crash-rule = record {
   in-force = (
-    trusted (r₀ .now) refl refl refl refl,
+    trusts (r₀ .now) (refl, refl, refl, refl),
     (
-      trusted (r₁ .now) refl refl refl refl,
+      trusts (r₁ .now) (refl, refl, refl, refl),
       (
-        trusted (r₂ .now) refl refl refl refl,
-        (
-          trusted (r₃ .now) refl refl refl refl,
-          trusted (r₄ .now) refl refl refl refl,
-        ),
+        trusts (r₂ .now) (refl, refl, refl, refl),
+        (trusts (r₃ .now) (refl, refl, refl, refl), trusts (r₄ .now) (refl, refl, refl, refl)),
       ),
     ),
   );
-  fair = λ p q hp hq u b. only-one p q hp hq u b (ℕ-discrete 1 p) (ℕ-discrete 1 q);
+  -- process 0 is down, and 1 does not trust it
+  fair = λ p q hp hq u b.
+      two (λ x. r₄ .now (up x) ≡ 1 → bit (r₄ .now (trust x)) q ≡ true → r₄ .now (up q) ≡ 1)
+      (λ v _. absurd (let z : _≡_ {A = ℕ} 0 1 = v in omega arith))
+      (λ _ c. two (λ x. bit (r₄ .now (trust 1)) x ≡ true → r₄ .now (up x) ≡ 1) (λ d. clash d refl) (λ _. refl)
+      q hq c) p hp u b;
 }
   where
-    trusted : (s : State) → s size ≡ 2 → s (group 0) ≡ s (group 1) → bit (s (trust 0)) 1 ≡ true
-        → bit (s (trust 1)) 1 ≡ true
-        → InForce (is-up (run on-states (started pair) crashing .now)) s
-    trusted s z g t0 t1 = both-trust s z g t0 t1 (is-up (run on-states (started pair) crashing .now)) refl
-
-    -- process 0 is down, and 1 does not trust it
-    only-one : (p q : ℕ) → p < 2 → q < 2 → run on-states (started pair) crashing .now (up p) ≡ 1
-        → bit (run on-states (started pair) crashing .now (trust p)) q ≡ true → Dec (1 ≡ p) → Dec (1 ≡ q)
-        → run on-states (started pair) crashing .now (up q) ≡ 1
-    only-one p q hp hq u b d (yes e) =
-        subst (λ (x : ℕ). run on-states (started pair) crashing .now (up x) ≡ 1) e refl
-    only-one p q hp hq u b (no n) (no k) =
-        let e : p ≡ 0 = omega arith in
-        let z : _≡_ {A = ℕ} 0 1 =
-        subst (λ (x : ℕ). run on-states (started pair) crashing .now (up x) ≡ 1) e u in
-        absurd (omega arith)
-    only-one p q hp hq u b (yes d) (no k) =
-        let e : q ≡ 0 = omega arith in
-        clash (subst (λ (x : ℕ). bit (run on-states (started pair) crashing .now (trust 1)) x ≡ true) e
-        (subst (λ (x : ℕ). bit (run on-states (started pair) crashing .now (trust x)) q ≡ true) (sym d) b))
-        refl
+    trusts : (s : State) → Both s → InForce (is-up (r₄ .now)) s
+    trusts = both-trust (is-up (r₄ .now)) refl
 
 -- so after a settle with 33,792 arrivals what one process has FIFO-delivered every live addressee has
 pub crash-agreed : Agreed (settled (run on-states (started pair) crashing) 33792 .world .now)

@@ -2,11 +2,11 @@
 -- (crate order), the bound from the potential (crate bound), agreement from letters and trust (crate
 -- agreement): a settle that says done leaves no letter between up processes, and keeps the trust rule of the
 -- list, its live processes and its trust sets. Assumes nothing.
-use mathlib.Core.Path.{_≡_, refl, sym, ap, _∙_, subst, fun-ext}
-use mathlib.Core.Bool.{Bool, true, false}
+use mathlib.Core.Path.{_≡_, refl, sym, ap, subst, fun-ext}
+use mathlib.Core.Bool.{Bool, true}
 use mathlib.Core.List.{List}
-use mathlib.Core.Logic.{_⊎_, inl, inr}
-use Prim.Native.Nat.{ℕ, _≤_}
+use mathlib.Core.Logic.{inl, inr}
+use Prim.Native.Nat.{ℕ, _≤_, _<_}
 use native.Mathlib.Omega.{arith}
 use lib.Dec.{eqb}
 use borrow.Author.Tests.{eq-eqb}
@@ -15,18 +15,17 @@ use Rattle.base.specs.Bits.{bit}
 use Rattle.world.specs.World.{size, trust, up, State}
 use Rattle.world.specs.Setup.{setup-refusal}
 use Rattle.world.specs.Steps.{arrives, is-up, in-flight, step}
-use Rattle.world.specs.StepLaws.{Moves, Chosen, lowest-chosen, lowest-moves}
-use Rattle.world.specs.Settle.{nothing, moves, lowest, Settled, settle-from}
-use Rattle.world.specs.History.{Run, Item, on-states, taken, run, started, Fair, TrustRule}
-use Rattle.effects.specs.Views.{Ground, ground}
-use Rattle.effects.specs.Holding.{chosen-accepted}
-use Rattle.order.specs.Runs.{Whole, whole-started, whole-step}
+use Rattle.world.specs.StepLaws.{lowest-chosen, lowest-moves, moves-taken}
+use Rattle.world.specs.Settle.{nothing, moves, lowest, Settled, settle-from, settle}
+use Rattle.world.specs.History.{Run, Item, on-states, taken, run, started, TrustRule}
+use Rattle.effects.specs.Views.{Ground}
+use Rattle.order.specs.Runs.{Whole, whole-started}
 use Rattle.order.specs.Order.{reached}
-use Rattle.agreement.specs.Turns.{Live}
 use Rattle.agreement.specs.Runs.{live-started, During, arrival-during, along-ends, live-run}
 use Rattle.agreement.specs.Agreement.{Calm, Agreed, agrees}
 use Rattle.bound.specs.Potential.{potential}
-use Rattle.bound.specs.Settle.{arrivals, SaysDone, Ended, settle-ends, moved-falls, reached-low}
+use Rattle.bound.specs.Settle.{arrivals, SaysDone, Ended, settle-ends, moved-falls, reached-low, reached-settle-most, reached-settle-done}
+use Rattle.carried.specs.Carried.{settle-now}
 
 -- ---- the settle of a run, with its answer
 unfoldable pub settled : Run State → ℕ → Settled (Run State)
@@ -35,14 +34,13 @@ settled r b = settle-from (λ t. lowest (t .now)) (λ t k m q p. taken on-states
 -- nothing to move: no letter flies between two up processes
 calm : (s : State) → lowest s ≡ nothing → Calm s
 unfolding moves
-calm s e k m q p hk hm hq hp uq up-p = go (bool-cases (in-flight s k m q p))
-  where
-    go : (in-flight s k m q p ≡ true) ⊎ (in-flight s k m q p ≡ false) → in-flight s k m q p ≡ false
-    go (inr z) = z
-    go (inl z) = clash
-        (both-i (both (in-flight s k m q p) (is-up s q)) (is-up s p)
-        (both-i (in-flight s k m q p) (is-up s q) z (eq-eqb (s (up q)) 1 uq)) (eq-eqb (s (up p)) 1 up-p))
-        (subst (Chosen s) e (lowest-chosen s) k m q p hk hm hq hp)
+calm s e k m q p hk hm hq hp uq up-p = elim (bool-cases (in-flight s k m q p)) [
+  | inr z ↦ z
+  | inl z ↦ clash
+      (both-i (both (in-flight s k m q p) (is-up s q)) (is-up s p)
+      (both-i (in-flight s k m q p) (is-up s q) z (eq-eqb (s (up q)) 1 uq)) (eq-eqb (s (up p)) 1 up-p))
+      (rw e at (lowest-chosen s) k m q p hk hm hq hp)
+]
 
 -- ---- demand 3, for the run of a list of items
 pub record Demand3States (r : Run State) (items : List Item) : Type 0 where
@@ -52,33 +50,14 @@ pub record Demand3States (r : Run State) (items : List Item) : Type 0 where
   pub agreed : TrustRule on-states r items → (b : ℕ) → 33792 ≤ b
       → Agreed (settled (run on-states r items) b .world .now)
 
+-- up processes trust up processes only: that looks at the ground
+abbrev FairIn : Ground → Type 0
+FairIn v = (p q : ℕ) → p < v .size → q < v .size → v .up p ≡ 1 → bit (v .trust p) q ≡ true → v .up q ≡ 1
+
 module _ (setup : List ℕ) (items : List Item) (ok : setup-refusal setup ≡ 0) where
   -- the run after the list
   abbrev r : Run State
   r = run on-states (started setup) items
-
-  -- what holds of every run
-  w : Whole (run on-states (started setup) items)
-  w = reached setup items ok
-
-  -- a settle ends: of any run that keeps P under the arrivals of letters that can move
-  ended : (P : Run State → Type 0) → ((t : Run State) → P t → Whole t)
-      → ((t : Run State) (k m q p : ℕ) → Moves (t .now) k m q p → P t
-      → P (taken on-states t (arrives k m q p)))
-      → P (run on-states (started setup) items) → (b : ℕ)
-      → Ended (λ t. lowest (t .now)) (λ t k m q p. taken on-states t (arrives k m q p)) P
-      (λ t. potential (t .now)) b 0
-      (run on-states (started setup) items) (settled (run on-states (started setup) items) b)
-  unfolding settled step
-  ended P whole-of keep p b =
-      settle-ends (λ t. lowest (t .now)) (λ t k m q p. taken on-states t (arrives k m q p)) P
-      (λ t. potential (t .now))
-      (λ t k m q p e z.
-      let a = lowest-moves (t .now) k m q p e in
-      record {
-        keeps = keep t k m q p a z;
-        lowers = moved-falls (t .now) k m q p (whole-of t z .sound) a;
-      }) b 0 r p
 
   -- with the trust rule
   module _ (rule : TrustRule on-states (started setup) items) where
@@ -86,60 +65,44 @@ module _ (setup : List ℕ) (items : List Item) (ok : setup-refusal setup ≡ 0)
     abbrev live : ℕ → Bool
     live = is-up (run on-states (started setup) items .now)
 
+    -- a settle ends, and keeps what letters and trust tell
     during : (b : ℕ)
         → Ended (λ t. lowest (t .now)) (λ t k m q p. taken on-states t (arrives k m q p)) (During live r)
-        (λ t. potential (t .now)) b 0 (run on-states (started setup) items)
-        (settled (run on-states (started setup) items) b)
+        (λ t. potential (t .now)) b 0 r (settled r b)
+    unfolding settled step
     during b =
-        ended (During live r) (λ t d. d .whole)
-        (λ t k m q p a d. arrival-during live r t k m q p
-        (along-ends live (started setup) items (rule .in-force))
-        (chosen-accepted (t .now) k m q p a) d)
-        (record {
-          whole = w;
+        settle-ends (λ t. lowest (t .now)) (λ t k m q p. taken on-states t (arrives k m q p)) (During live r)
+        (λ t. potential (t .now))
+        (λ t k m q p e d.
+        let a = lowest-moves (t .now) k m q p e in
+        record {
+          keeps = arrival-during live r t k m q p (along-ends live (started setup) items (rule .in-force))
+              (moves-taken (t .now) k m q p a) d;
+          lowers = moved-falls (t .now) k m q p (d .whole .sound) a;
+        })
+        b 0 r (record {
+          whole = reached setup items ok;
           lives =
               live-run live (started setup) items (whole-started setup ok) (live-started live setup)
               (rule .in-force);
           ground-is = refl;
-        }) b
+        })
 
-    agreed-after : (b : ℕ) → 33792 ≤ b → Agreed (settled (run on-states (started setup) items) b .world .now)
+    agreed-after : (b : ℕ) → 33792 ≤ b → Agreed (settled r b .world .now)
     agreed-after b l =
         let e = during b in
         let d = e .kept in
         agrees (d .whole)
-        (subst (λ (f : ℕ → Bool). Live f (t .now))
-        (fun-ext (λ q. ap (λ (g : Ground). eqb (g .up q) 1) (sym (d .ground-is)))) (d .lives))
-        (calm (t .now) (e .finishes (omega (arith, reached-low setup items ok)) .1)) (fair-after (d .ground-is))
-      where
-        t : Run State
-        t = settled (run on-states (started setup) items) b .world
-
-        fair-after : ground (settled (run on-states (started setup) items) b .world .now)
-            ≡ ground (run on-states (started setup) items .now)
-            → Fair (settled (run on-states (started setup) items) b .world .now)
-        fair-after g p q hp hq u z =
-            ap (λ (x : Ground). x .up q) g
-            ∙ rule .fair p q (omega (arith, ap (λ (x : Ground). x .size) g))
-            (omega (arith, ap (λ (x : Ground). x .size) g))
-            (sym (ap (λ (x : Ground). x .up p) g) ∙ u)
-            (subst (λ (x : ℕ). bit x q ≡ true) (ap (λ (x : Ground). x .trust p) g) z)
+        (rw (fun-ext (λ q. ap (λ (g : Ground). eqb (g .up q) 1) (sym (d .ground-is)))) at (d .lives))
+        (calm (settled r b .world .now) (e .finishes (omega (arith, reached-low setup items ok)) .1))
+        (subst FairIn (sym (d .ground-is)) (rule .fair))
 
   -- demand 3 over states
   pub demand-3-states : Demand3States (started setup) items
+  unfolding settled settle step
   demand-3-states = record {
-    whole = w;
-    bounded = λ b. omega (arith, plain b .few, reached-low setup items ok);
-    finishes = λ b l. plain b .finishes (omega (arith, reached-low setup items ok)) .0;
+    whole = reached setup items ok;
+    bounded = λ b. rw (settle-now on-states r b .endings) (reached-settle-most setup items ok b);
+    finishes = λ b l. rw (settle-now on-states r b .endings) (reached-settle-done setup items ok b l);
     agreed = agreed-after;
   }
-    where
-      whole-arrival : (t : Run State) (k m q p : ℕ) → Moves (t .now) k m q p → Whole t
-          → Whole (taken on-states t (arrives k m q p))
-      whole-arrival t k m q p a z =
-          whole-step (t .now) (t .seen) (arrives k m q p) (chosen-accepted (t .now) k m q p a) z
-
-      plain : (b : ℕ) → Ended (λ t. lowest (t .now)) (λ t k m q p. taken on-states t (arrives k m q p)) Whole
-          (λ t. potential (t .now)) b 0 (run on-states (started setup) items)
-          (settled (run on-states (started setup) items) b)
-      plain b = ended Whole (λ t z. z) (λ t k m q p a z. whole-arrival t k m q p a z) w b

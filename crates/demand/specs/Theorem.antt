@@ -3,7 +3,7 @@
 -- settle allowed that many says done and leaves the FIFO logs agreed. No hypothesis but the trust rule where
 -- the demand names it. It is the demand over states (States), read off the words of the run's state (Words).
 -- Assumes nothing.
-use mathlib.Core.Path.{_≡_, sym, ap, _∙_, subst, subst₂}
+use mathlib.Core.Path.{_≡_, sym, ap, _∙_}
 use mathlib.Core.Bool.{true, false}
 use mathlib.Core.List.{List}
 use Prim.Native.Nat.{ℕ, _≤_, _<_}
@@ -21,8 +21,8 @@ use Rattle.world.specs.Setup.{setup-refusal}
 use Rattle.world.specs.Machine.{addressed}
 use Rattle.world.specs.Steps.{is-up}
 use Rattle.world.specs.Settle.{Ending, done, stopped}
-use Rattle.world.specs.Words.{gives, settled-words, settle-reply, log-words}
-use Rattle.world.specs.History.{Before, casts, Run, Item, on-states, on-words, run, started, Fair, TrustRule}
+use Rattle.world.specs.Words.{gives, settle-reply, log-words}
+use Rattle.world.specs.History.{Before, casts, Run, Item, on-states, on-words, run, started, TrustRule}
 use Rattle.world.specs.Demand.{CausalOrder, Agreed, AtMost, done-in, stopped-in, SaysDone, says-done, Demand3, Demand3Always}
 use Rattle.keeps.specs.Keeps.{run-sound, fresh-sound}
 use Rattle.order.specs.Precedence.{cast-low}
@@ -31,10 +31,10 @@ use Rattle.order.specs.Cascade.{Fifo}
 use Rattle.order.specs.Order.{causal-past, past-causal, causal-once, causal-ordered}
 use Rattle.agreement.specs.Agreement.{Agreed as AgreedStates}
 use Rattle.bound.specs.Settle.{arrivals, SaysDone as EndsDone}
-use Rattle.carried.specs.Calls.{log-carried}
-use Rattle.carried.specs.Carried.{written, run-carried, setup-taken, start-carried}
+use Rattle.carried.specs.Calls.{log-carried, listed-in, in-listed}
+use Rattle.carried.specs.Carried.{written, settled-sound, settled-carried, answer-carried, run-carried, setup-taken, start-carried}
 use Rattle.demand.specs.States.{settled, Demand3States, demand-3-states}
-use Rattle.demand.specs.Words.{listed-in, in-listed, size-read, to-read, settled-sound, settled-carried, answer-carried, fair-read, run-size, along-read}
+use Rattle.demand.specs.Words.{size-read, to-read, fair-read, run-size, along-read}
 
 -- ---- conclusions 1 and 2
 module _ (r : Run State) (h : Sound (r .now)) (w : Whole r) where
@@ -69,7 +69,7 @@ module _ (r : Run State) (h : Sound (r .now)) (w : Whole r) where
         let hp = process-low p l in
         let ki : i < r .now (causal-length p) = omega (arith, long p hp) in
         let kj : j < r .now (causal-length p) = omega (arith, long p hp) in
-        causal-ordered w p i j ki kj (subst₂ (Before (r .seen)) (item p hp j kj) (item p hp i ki) b);
+        causal-ordered w p i j ki kj (rw (item p hp j kj, item p hp i ki) at b);
   }
     where
       long : (p : ℕ) → p < r .now size
@@ -90,8 +90,7 @@ module _ (s : State) (h : Sound s) (a : AgreedStates s) where
 
   -- what is in a log is a message
   logged : (p m : ℕ) → p < s size → Fifo s p m → m < s count
-  logged p m hp (in-at i l e) =
-      subst (λ (z : ℕ). z < s count) e (ltb-true (s (fifo p i)) (s count) (fifo-addressed s h p i hp l .of))
+  logged p m hp (in-at i l e) = rw e at (ltb-true (s (fifo p i)) (s count) (fifo-addressed s h p i hp l .of))
 
   -- who is up on the words is up
   up-read : (q : ℕ) → q < s size → view (encode s) (up q) ≡ 1 → s (up q) ≡ 1
@@ -125,7 +124,7 @@ at-most n (stopped i) l = stopped-in i l
 
 -- an answer that says done
 says : (e : Ending) → EndsDone e → SaysDone (gives e)
-says e d = subst (λ (x : Ending). SaysDone (gives x)) (sym d) (says-done (arrivals e))
+says e d = rw d (says-done (arrivals e))
 
 -- ---- the theorem, from the words of a fresh state
 module _ (setup : List ℕ) (items : List Item) (ok : setup-refusal setup ≡ 0) where
@@ -158,21 +157,18 @@ module _ (setup : List ℕ) (items : List Item) (ok : setup-refusal setup ≡ 0)
         (λ q l. ap (λ (x : ℕ). eqb x 1) (ap (λ (x : Run (List ℕ)). view (x .now) (up q)) carried
         ∙ get-encode (r .now) (up q) (omega (arith, size-high (r .now) sound-last))))
         items (started setup) (sym (run-size (started setup) items)) sound-first (t .in-force);
-    fair =
-        fair-read (r .now) sound-last (subst (λ (x : Run (List ℕ)). Fair (view (x .now))) carried (t .fair));
+    fair = fair-read (r .now) sound-last (rw carried at (t .fair));
   }
 
   -- the demand on words
   demand-3-written : Demand3 (written (started setup)) items
+  unfolding settled
   demand-3-written = record {
-    order = subst CausalOrder (sym carried) (causal-order r sound-last (on-states-3 .whole));
-    bounded =
-        λ b. subst (AtMost 33792) (sym (reply b))
-        (at-most 33792 (settled r b .ending) (on-states-3 .bounded b));
+    order = rw carried (causal-order r sound-last (on-states-3 .whole));
+    bounded = λ b. rw (reply b) (at-most 33792 (settled r b .ending) (on-states-3 .bounded b));
     settles = λ t b l. (
-      subst SaysDone (sym (reply b)) (says (settled r b .ending) (on-states-3 .finishes b l)),
-      subst Agreed
-          (sym (ap (λ (x : Run (List ℕ)). settled-words (x .now) b) carried ∙ settled-carried r sound-last b))
+      rw (reply b) (says (settled r b .ending) (on-states-3 .finishes b l)),
+      rw (carried, settled-carried r sound-last b)
           (agreed-words (settled r b .world .now) (settled-sound r sound-last b)
           (on-states-3 .agreed (rule-read t) b l)),
     );
@@ -190,6 +186,4 @@ module _ (setup : List ℕ) (items : List Item) (ok : setup-refusal setup ≡ 0)
 -- live addressees, and each has told all that it is its turn; what one process delivered was vouched for by a
 -- live member of each group, which the trust rule gives.
 pub demand-3 : Demand3Always
-demand-3 w setup items e =
-    subst (λ (r : Run (List ℕ)). Demand3 r items) (sym (start-carried w setup e))
-    (demand-3-written setup items (setup-taken w setup e))
+demand-3 w setup items e = rw (start-carried w setup e) (demand-3-written setup items (setup-taken w setup e))

@@ -1,44 +1,17 @@
 -- The parts of an arrival before its cascade, and of the other steps: what they leave as it was. A letter
 -- leaves, a mark is set, a message is held and answered: none of these touches a process's record, the
 -- messages, or who is up and trusted. Assumes nothing.
-use mathlib.Core.Path.{_≡_, refl, sym, _∙_, subst}
-use mathlib.Core.Bool.{Bool, true, false}
+use mathlib.Core.Path.{_≡_, refl, sym, ap, _∙_, subst₂}
+use mathlib.Core.Bool.{true}
 use Prim.Native.Nat.{ℕ}
-use lib.Dec.{eqb}
-use borrow.Author.Tests.{eqb-true, eqb-false}
-use mathlib.Core.Logic.{_⊎_, inl, inr, _≢_}
+use mathlib.Core.Logic.{_≢_}
 use native.Mathlib.Decide.{ℕ-discrete}
-use Rattle.base.specs.Tests.{pick}
-use Rattle.base.specs.Bits.{bit, with, without, without-old, without-other}
-use Rattle.world.specs.World.{Cell, marks, held, flight, State, put}
+use Rattle.base.specs.Bits.{bit, without, without-old, without-other}
+use Rattle.world.specs.World.{held, flight, State, put}
 use Rattle.world.specs.Layout.{put-at}
-use Rattle.world.specs.Machine.{addressees, in-turn, leave, mark, hold}
-use Rattle.effects.specs.Views.{process, ground}
-
--- ---- a mark, and a message held, by cases
--- the mark of q for m is set at p, if the letter is an OK
-pub mark-cases : (P : State → Type 0) (s : State) (k m q p : ℕ)
-    → (k ≡ 2 → P (put s (marks p m) (with (s (marks p m)) q))) → (k ≢ 2 → P s) → P (mark s k m q p)
-unfolding mark
-mark-cases P s k m q p set unset = go (eqb k 2) refl
-  where
-    go : (b : Bool) → eqb k 2 ≡ b → P (pick b (put s (marks p m) (with (s (marks p m)) q)) s)
-    go true e = set (eqb-true k 2 e)
-    go false e = unset (eqb-false k 2 e)
-
--- p holds m, and answers it by a letter of kind k to all addressees
-abbrev pub holding : State → ℕ → ℕ → ℕ → State
-holding s p m k = put (put s (held p m) 1) (flight m k p) (addressees s m)
-
--- p holds m now, if it did not before, and answers it
-pub hold-cases : (P : State → Type 0) (s : State) (p m : ℕ) → (s (held p m) ≡ 1 → P s)
-    → (s (held p m) ≢ 1 → P (holding s p m (pick (in-turn s p m) 2 1))) → P (hold s p m)
-unfolding hold
-hold-cases P s p m old new = go (eqb (s (held p m)) 1) refl
-  where
-    go : (b : Bool) → eqb (s (held p m)) 1 ≡ b → P (pick b s (holding s p m (pick (in-turn s p m) 2 1)))
-    go true e = old (eqb-true (s (held p m)) 1 e)
-    go false e = new (eqb-false (s (held p m)) 1 e)
+use Rattle.world.specs.Kept.{mark-cases, hold-cases, marked-keeps, received-keeps}
+use Rattle.world.specs.Machine.{leave, mark, received}
+use Rattle.effects.specs.Views.{process, Scene, scene, ground}
 
 -- ---- r holds m; the letter of kind k for m from q to u flies
 abbrev pub Held : State → ℕ → ℕ → Type 0
@@ -48,37 +21,44 @@ Held s r m = s (held r m) ≡ 1
 abbrev pub Fly : State → ℕ → ℕ → ℕ → ℕ → Type 0
 Fly s m k q u = bit (s (flight m k q)) u ≡ true
 
+-- ---- a store in the letters of m of kind k from q, by cases
+pub put-letter : (s : State) (m k q v : ℕ) (P : ℕ → ℕ → ℕ → ℕ → Type 0) → P m k q v
+    → ((x j o : ℕ) → P x j o (s (flight x j o)))
+    → (x j o : ℕ) → P x j o (put s (flight m k q) v (flight x j o))
+put-letter s m k q v P it other x j o =
+    put-at s (flight m k q) (flight x j o) v (P x j o)
+    (λ e. subst₂ (λ (y i : ℕ). P y i o v) (cc) (cc) (let d : q ≡ o = cc in rw d at it)) (λ _. other x j o)
+
 -- ---- a letter leaves flight
 module _ (s : State) (k m q p : ℕ) where
   pub leave-less : (x j o u : ℕ) → Fly (leave s k m q p) x j o u → Fly s x j o u
   unfolding leave
   leave-less x j o u =
-      put-at s (flight m k q) (flight x j o) (without (s (flight m k q)) p)
-      (λ v. bit v u ≡ true → Fly s x j o u)
-      (λ e z. subst (λ (c : Cell). bit (s c) u ≡ true) e (without-old (s (flight m k q)) p u z)) (λ _ z. z)
+      put-letter s m k q (without (s (flight m k q)) p) (λ x j o v. bit v u ≡ true → Fly s x j o u)
+      (without-old (s (flight m k q)) p u) (λ _ _ _ z. z) x j o
 
-  -- it is that letter, or it still flies
-  pub leave-flown : (x j o u : ℕ) → Fly s x j o u
-      → ((m ≡ x) × (k ≡ j) × (q ≡ o) × (p ≡ u)) ⊎ Fly (leave s k m q p) x j o u
+  -- a letter that flew is that one, or it still flies
+  pub leave-cases : (P : ℕ → ℕ → ℕ → ℕ → Type 0) → P m k q p
+      → ((x j o u : ℕ) → Fly (leave s k m q p) x j o u → P x j o u)
+      → (x j o u : ℕ) → Fly s x j o u → P x j o u
   unfolding leave
-  leave-flown x j o u z =
-      put-at s (flight m k q) (flight x j o) (without (s (flight m k q)) p)
-      (λ v. ((m ≡ x) × (k ≡ j) × (q ≡ o) × (p ≡ u)) ⊎ (bit v u ≡ true))
-      (λ e. go e (ℕ-discrete p u)) (λ _. inr z)
-    where
-      go : flight m k q ≡ flight x j o → Dec (p ≡ u)
-          → ((m ≡ x) × (k ≡ j) × (q ≡ o) × (p ≡ u)) ⊎ (bit (without (s (flight m k q)) p) u ≡ true)
-      go e (yes d) = inl (cc, cc, cc, d)
-      go e (no d) =
-          inr (without-other (s (flight m k q)) p u d ∙ subst (λ (c : Cell). bit (s c) u ≡ true) (sym e) z)
+  leave-cases P it other x j o u z =
+      put-letter s m k q (without (s (flight m k q)) p)
+      (λ x j o v. Fly s x j o u → (bit v u ≡ true → P x j o u) → P x j o u)
+      (λ f rest. elim (ℕ-discrete p u) [
+        | yes d ↦ rw d at it
+        | no d ↦ rest (without-other (s (flight m k q)) p u d ∙ f)
+      ])
+      (λ _ _ _ f rest. rest f) x j o z (other x j o u)
 
-  -- ---- then the mark is set
+-- ---- what an arrival before its cascade leaves
+module _ (s : State) (k m q p : ℕ) where
+  -- marking concerns nothing that is held
   pub marked-held : (r x : ℕ) → mark (leave s k m q p) k m q p (held r x) ≡ s (held r x)
-  unfolding leave put
-  marked-held r x =
-      mark-cases (λ t. t (held r x) ≡ s (held r x)) (leave s k m q p) k m q p (λ _. refl) (λ _. refl)
+  unfolding put
+  marked-held r x = marked-keeps s k m q p (λ t. t (held r x)) (λ _ _ _ _. refl) (λ _ _. refl)
 
-  -- marking concerns no letter
+  -- no letter
   pub marked-flight : (x j o : ℕ)
       → mark (leave s k m q p) k m q p (flight x j o) ≡ leave s k m q p (flight x j o)
   unfolding put
@@ -86,33 +66,37 @@ module _ (s : State) (k m q p : ℕ) where
       mark-cases (λ t. t (flight x j o) ≡ leave s k m q p (flight x j o)) (leave s k m q p) k m q p
       (λ _. refl) (λ _. refl)
 
--- ---- the state in which the cascade of an arrival begins
-abbrev pub arrived : State → ℕ → ℕ → ℕ → ℕ → State
-arrived s k m q p = hold (mark (leave s k m q p) k m q p) p m
+  -- no record
+  pub mark-process : (r : ℕ) → process (mark (leave s k m q p) k m q p) r ≡ process s r
+  unfolding put
+  mark-process r = marked-keeps s k m q p (λ t. process t r) (λ _ _ _ _. refl) (λ _ _. refl)
 
--- nor a record
-pub mark-process : (s : State) (k m q p r : ℕ) → process (mark (leave s k m q p) k m q p) r ≡ process s r
-unfolding leave put
-mark-process s k m q p r =
-    mark-cases (λ t. process t r ≡ process s r) (leave s k m q p) k m q p (λ _. refl) (λ _. refl)
+  -- nor size, messages, groups, trust and who is up
+  pub mark-ground : ground (mark (leave s k m q p) k m q p) ≡ ground s
+  unfolding put
+  mark-ground = marked-keeps s k m q p ground (λ _ _ _ _. refl) (λ _ _. refl)
 
--- an arrival before its cascade leaves every process's record
-pub arrived-process : (s : State) (k m q p r : ℕ) → process (arrived s k m q p) r ≡ process s r
-unfolding put
-arrived-process s k m q p r =
-    hold-cases (λ t. process t r ≡ process s r) (mark (leave s k m q p) k m q p) p m
-    (λ _. mark-process s k m q p r)
-    (λ _. mark-process s k m q p r)
+  -- an arrival before its cascade leaves what the order of the logs looks at
+  pub received-scene : scene (received s k m q p) ≡ scene s
+  unfolding put
+  received-scene = received-keeps s k m q p scene (λ _ _ _ _. refl) (λ _ _. refl) (λ _ _. refl)
 
--- marking leaves size, messages, groups, trust and who is up
-pub mark-ground : (s : State) (k m q p : ℕ) → ground (mark (leave s k m q p) k m q p) ≡ ground s
-unfolding leave put
-mark-ground s k m q p =
-    mark-cases (λ t. ground t ≡ ground s) (leave s k m q p) k m q p (λ _. refl) (λ _. refl)
+  -- so every process's record
+  pub received-process : (r : ℕ) → process (received s k m q p) r ≡ process s r
+  received-process r = ap (λ (v : Scene). v .own r) received-scene
 
--- so does an arrival before its cascade
-pub arrived-ground : (s : State) (k m q p : ℕ) → ground (arrived s k m q p) ≡ ground s
-unfolding put
-arrived-ground s k m q p =
-    hold-cases (λ t. ground t ≡ ground s) (mark (leave s k m q p) k m q p) p m (λ _. mark-ground s k m q p)
-    (λ _. mark-ground s k m q p)
+  -- and the ground
+  pub received-ground : ground (received s k m q p) ≡ ground s
+  unfolding put
+  received-ground = received-keeps s k m q p ground (λ _ _ _ _. refl) (λ _ _. refl) (λ _ _. refl)
+
+  -- what is held then was held before, or it is m at p, and new
+  pub received-held : (P : ℕ → ℕ → Type 0) → ((r x : ℕ) → Held s r x → P r x) → (s (held p m) ≢ 1 → P p m)
+      → (r x : ℕ) → Held (received s k m q p) r x → P r x
+  unfolding put
+  received-held P old new r x =
+      hold-cases (λ t. Held t r x → P r x) (mark (leave s k m q p) k m q p) p m
+      (λ _ d. old r x (sym (marked-held r x) ∙ d))
+      (λ n. put-at (mark (leave s k m q p) k m q p) (held p m) (held r x) _ (λ v. v ≡ 1 → P r x)
+      (λ e _. subst₂ P (cc) (cc) (new (λ d. n (marked-held p m ∙ d))))
+      (λ _ d. old r x (sym (marked-held r x) ∙ d)))

@@ -1,76 +1,47 @@
 -- What the cascade at p leaves as it was, and what each of its parts writes. The causal deliveries write p's
 -- causal log, del and counters; a FIFO delivery besides these p's FIFO log, next of the sender, and OKs from
 -- p. Assumes nothing.
-use mathlib.Core.Path.{_≡_, refl, sym, ap, ap₂, _∙_, subst}
+use mathlib.Core.Path.{_≡_, refl, sym, ap, ap₂, _∙_, subst₂}
 use mathlib.Core.Bool.{Bool, true, false, _&&_}
-use mathlib.Core.Logic.{_⊎_, inl, inr, _≢_}
+use mathlib.Core.Logic.{_≢_}
 use Prim.Native.Nat.{ℕ, zero, suc, _+_, _-_, _≤_, _<_, max}
 use native.Mathlib.Decide.{ℕ-discrete}
 use native.Mathlib.Nat.{not-suc-le-zero}
 use native.Mathlib.Omega.{arith}
 use lib.Dec.{eqb}
 use borrow.Author.Tests.{ne-eqb, eq-eqb, eqb-true}
-use Rattle.base.specs.Tests.{pick, pick-no, pick-yes, both, both-l, both-r, bool-cases, clash, eqb-refl}
+use Rattle.base.specs.Tests.{pick, pick-no, pick-yes, both, both-l, both-r, clash, eqb-refl, at-or-off}
 use Rattle.base.specs.Bits.{bit, mask-of}
-use Rattle.base.specs.Loop.{loop-keeps}
 use Rattle.world.specs.World.{Cell, size, count, group, counter, sequence, next, delivered, fifo-length, causal-length, held, fifo, causal, sender, stamp, number, flight, State, put}
-use Rattle.world.specs.Layout.{put-same, put-other, put-at}
-use Rattle.world.specs.Machine.{with-tables, addressees, in-turn, deliverable-at, merge, causal-one, causal-all, appended, raised-next, due, send-ok, send-oks, fifo-one, ready, cascade}
+use Rattle.world.specs.Layout.{put-same, put-at}
+use Rattle.world.specs.Machine.{with-tables, addressees, merge, causal-one, causal-all, appended, raised-next, due, send-ok, send-oks, fifo-one, cascade}
 use Rattle.keeps.specs.Next.{next-before}
-use Rattle.effects.specs.Views.{Messages, messages, Process, process, Ground, ground, Still, still, letters}
+use Rattle.world.specs.Kept.{causal-all-keeps, oks-keep, cascade-keeps}
+use Rattle.world.specs.Local.{other-away, causal-one-away, appended-away, raised-next-away, fifo-one-away}
+use Rattle.effects.specs.Views.{process-local, Messages, messages, Process, process, Scene, scene, Ground, ground, Still, still, letters}
 
 -- ---- what no part writes
--- what a causal delivery at p keeps, all of them keep
-causal-all-keeps : {A : Type 0} (f : State → A) (p : ℕ) → ((t : State) (i : ℕ) → f (causal-one t p i) ≡ f t)
-    → (s : State) → f (causal-all s p) ≡ f s
-unfolding causal-all
-causal-all-keeps f p one s =
-    loop-keeps (λ t. t (fifo-length p)) (λ t. deliverable-at t p) (λ t. causal-one t p) (λ t. f t ≡ f s)
-    (λ t i _ _ _ e. one t i ∙ e) (s (fifo-length p) - s (causal-length p)) s refl
-
--- what an OK of p's keeps, all of them keep
-oks-keep : {A : Type 0} (f : State → A) (p : ℕ) → ((t : State) (m v : ℕ) → f (put t (flight m 2 p) v) ≡ f t)
-    → (s : State) (q k : ℕ) → f (send-oks s p q k) ≡ f s
-unfolding send-oks send-ok
-oks-keep f p one s q zero = refl
-oks-keep f p one s q (suc k) = go (due t p q k) ∙ oks-keep f p one s q k
-  where
-    t : State
-    t = send-oks s p q k
-
-    go : (b : Bool) → f (pick b (put t (flight k 2 p) (addressees t k)) t) ≡ f t
-    go true = one t k (addressees t k)
-    go false = refl
-
--- all causal deliveries at p
-causal-all-still : (s : State) (p : ℕ) → still (causal-all s p) ≡ still s
-unfolding causal-one merge with-tables put
-causal-all-still s p = causal-all-keeps still p (λ t i. refl) s
-
 -- the OKs are letters, and nothing else
 oks-still : (s : State) (p q k : ℕ) → still (send-oks s p q k) ≡ still s
 unfolding put
 oks-still s p q k = oks-keep still p (λ t m v. refl) s q k
 
 -- and change no process's record
-oks-process : (s : State) (p q k r : ℕ) → process (send-oks s p q k) r ≡ process s r
+oks-scene : (s : State) (p q k : ℕ) → scene (send-oks s p q k) ≡ scene s
 unfolding put
-oks-process s p q k r = oks-keep (λ t. process t r) p (λ t m v. refl) s q k
-
--- ---- one store, as a choice between two values
--- the cell d is c just when the test says so
-pub put-pick : (s : State) (c d : Cell) (v : ℕ) (b : Bool) → (b ≡ true → c ≡ d) → (c ≡ d → b ≡ true)
-    → put s c v d ≡ pick b v (s d)
-put-pick s c d v b to from = go (bool-cases b)
-  where
-    go : (b ≡ true) ⊎ (b ≡ false) → put s c v d ≡ pick b v (s d)
-    go (inl e) = put-same s c d v (to e) ∙ sym (pick-yes v (s d) e)
-    go (inr e) = put-other s c d v (λ x. clash (from x) e) ∙ sym (pick-no v (s d) e)
+oks-scene s p q k = oks-keep scene p (λ t m v. refl) s q k
 
 -- ---- deliveries on views
 -- f with v at i
 abbrev pub at-place : (ℕ → ℕ) → ℕ → ℕ → ℕ → ℕ
 at-place f i v j = pick (eqb i j) v (f j)
+
+-- a store in one of the cells c i
+put-place : (s : State) (c : ℕ → Cell) → ((i j : ℕ) → c i ≡ c j → i ≡ j) → (i v j : ℕ)
+    → put s (c i) v (c j) ≡ at-place (λ k. s (c k)) i v j
+put-place s c one i v j =
+    put-at s (c i) (c j) v (λ x. x ≡ at-place (λ k. s (c k)) i v j) (λ e. rw (eq-eqb i j (one i j e)))
+    (λ n. rw (ne-eqb i j (λ e. n (ap c e))))
 
 -- A process after the FIFO delivery of m: m stands last in the FIFO log, next of its sender has risen.
 unfoldable pub fifo-delivered : Messages → Process → ℕ → Process
@@ -112,14 +83,10 @@ unfolding raised-next appended put fifo-delivered
 fifo-started-here s p m = λ j. record {
   group = s (group p);
   fifo-length = put-same s (fifo-length p) (fifo-length p) (s (fifo-length p) + 1) refl j;
-  fifo = λ i. put-pick s (fifo p (s (fifo-length p))) (fifo p i) m (eqb (s (fifo-length p)) i)
-      (λ e. ap (fifo p) (eqb-true (s (fifo-length p)) i e)) (λ e. eq-eqb (s (fifo-length p)) i (cc)) j;
+  fifo = λ i. put-place s (fifo p) (λ _ _ e. cc) (s (fifo-length p)) m i j;
   causal-length = s (causal-length p);
   causal = λ i. s (causal p i);
-  next =
-      λ q. put-pick s (next p (s (sender m))) (next p q) (s (next p (s (sender m))) + 1)
-      (eqb (s (sender m)) q)
-      (λ e. ap (next p) (eqb-true (s (sender m)) q e)) (λ e. eq-eqb (s (sender m)) q (cc)) j;
+  next = λ q. put-place s (next p) (λ _ _ e. cc) (s (sender m)) (s (next p (s (sender m))) + 1) q j;
   delivered = λ q. s (delivered p q);
   counter = λ g q. s (counter p g q);
   sequence = λ g. s (sequence p g);
@@ -127,28 +94,9 @@ fifo-started-here s p m = λ j. record {
 
 -- every other record is as it was
 pub fifo-started-there : (s : State) (p m r : ℕ) → p ≢ r → process (fifo-started s p m) r ≡ process s r
-unfolding raised-next appended put
-fifo-started-there s p m r n = λ j. record {
-  group = s (group r);
-  fifo-length = put-other s (fifo-length p) (fifo-length r) (s (fifo-length p) + 1) (λ e. n (cc)) j;
-  fifo = λ i. put-other s (fifo p (s (fifo-length p))) (fifo r i) m (λ e. n (cc)) j;
-  causal-length = s (causal-length r);
-  causal = λ i. s (causal r i);
-  next = λ q. put-other s (next p (s (sender m))) (next r q) (s (next p (s (sender m))) + 1) (λ e. n (cc)) j;
-  delivered = λ q. s (delivered r q);
-  counter = λ g q. s (counter r g q);
-  sequence = λ g. s (sequence r g);
-}
-
--- and so is what no part writes
-fifo-started-still : (s : State) (p m : ℕ) → still (fifo-started s p m) ≡ still s
-unfolding raised-next appended put
-fifo-started-still s p m = refl
-
--- and so are the letters
-pub fifo-started-letters : (s : State) (p m : ℕ) → letters (fifo-started s p m) ≡ letters s
-unfolding raised-next appended put
-fifo-started-letters s p m = refl
+fifo-started-there s p m r n = process-local s (fifo-started s p m) r (λ c o.
+    let a = other-away p r c o n in
+    raised-next-away p (appended s p m) (s (sender m)) c a ∙ appended-away p s m c a)
 
 -- ---- causal deliveries
 pub causal-one-here : (s : State) (p i : ℕ)
@@ -159,15 +107,11 @@ causal-one-here s p i = λ j. record {
   fifo-length = s (fifo-length p);
   fifo = λ k. s (fifo p k);
   causal-length = put-same s (causal-length p) (causal-length p) (s (causal-length p) + 1) refl j;
-  causal =
-      λ k. put-pick s (causal p (s (causal-length p))) (causal p k) (s (fifo p i))
-      (eqb (s (causal-length p)) k)
-      (λ e. ap (causal p) (eqb-true (s (causal-length p)) k e)) (λ e. eq-eqb (s (causal-length p)) k (cc)) j;
+  causal = λ k. put-place s (causal p) (λ _ _ e. cc) (s (causal-length p)) (s (fifo p i)) k j;
   next = λ q. s (next p q);
   delivered = λ q.
       (let o : ℕ = s (sender (s (fifo p i))) in
-      put-pick s (delivered p o) (delivered p q) (s (stamp (s (fifo p i)) (s (group p)) o)) (eqb o q)
-      (λ e. ap (delivered p) (eqb-true o q e)) (λ e. eq-eqb o q (cc)) j);
+      put-place s (delivered p) (λ _ _ e. cc) o (s (stamp (s (fifo p i)) (s (group p)) o)) q j);
   counter =
       λ g q. pick-yes (max (s (counter p g q)) (s (stamp (s (fifo p i)) g q))) (s (counter p g q))
       (eqb-refl p) j;
@@ -176,31 +120,8 @@ causal-one-here s p i = λ j. record {
 
 -- every other record is as it was
 pub causal-one-there : (s : State) (p i r : ℕ) → p ≢ r → process (causal-one s p i) r ≡ process s r
-unfolding causal-one merge with-tables put
-causal-one-there s p i r n = λ j. record {
-  group = s (group r);
-  fifo-length = s (fifo-length r);
-  fifo = λ k. s (fifo r k);
-  causal-length = put-other s (causal-length p) (causal-length r) (s (causal-length p) + 1) (λ e. n (cc)) j;
-  causal = λ k. put-other s (causal p (s (causal-length p))) (causal r k) (s (fifo p i)) (λ e. n (cc)) j;
-  next = λ q. s (next r q);
-  delivered = λ q.
-      (let o : ℕ = s (sender (s (fifo p i))) in
-      put-other s (delivered p o) (delivered r q) (s (stamp (s (fifo p i)) (s (group p)) o)) (λ e. n (cc)) j);
-  counter =
-      λ g q. pick-no (max (s (counter r g q)) (s (stamp (s (fifo p i)) g q))) (s (counter r g q))
-      (ne-eqb p r n) j;
-  sequence = λ g. s (sequence r g);
-}
-
--- all of them leave every other record
-pub causal-all-there : (s : State) (p r : ℕ) → p ≢ r → process (causal-all s p) r ≡ process s r
-causal-all-there s p r n = causal-all-keeps (λ t. process t r) p (λ t i. causal-one-there t p i r n) s
-
--- and send no letter
-causal-all-letters : (s : State) (p : ℕ) → letters (causal-all s p) ≡ letters s
-unfolding causal-one merge with-tables put
-causal-all-letters s p = causal-all-keeps letters p (λ t i. refl) s
+causal-one-there s p i r n =
+    process-local s (causal-one s p i) r (λ c o. causal-one-away p s i c (other-away p r c o n))
 
 -- what of p's own record the causal deliveries leave: the FIFO side
 pub record Front : Type 0 where
@@ -209,19 +130,13 @@ pub record Front : Type 0 where
   pub fifo : ℕ → ℕ
   pub next : ℕ → ℕ
 
--- the FIFO side of p in s
-abbrev pub front : State → ℕ → Front
-front s p = record {
-  group = s (group p);
-  fifo-length = s (fifo-length p);
-  fifo = λ i. s (fifo p i);
-  next = λ q. s (next p q);
-}
+-- of a record
+abbrev front-of : Process → Front
+front-of r = record { group = r .group; fifo-length = r .fifo-length; fifo = r .fifo; next = r .next }
 
--- they leave it
-causal-all-front : (s : State) (p : ℕ) → front (causal-all s p) p ≡ front s p
-unfolding causal-one merge with-tables put
-causal-all-front s p = causal-all-keeps (λ t. front t p) p (λ t i. refl) s
+-- of p in s
+abbrev pub front : State → ℕ → Front
+front s p = front-of (process s p)
 
 -- ---- a turn: next may rise before the causal deliveries
 -- the state of a turn before its OKs
@@ -237,19 +152,19 @@ fifo-one-is s p m =
     (sym (next-before (appended s p m) p (s (sender m))))
 
 -- the OKs change no record
-pub fifo-one-process : (s : State) (p m r : ℕ) → process (fifo-one s p m) r ≡ process (fifo-middle s p m) r
-fifo-one-process s p m r =
-    ap (λ (t : State). process t r) (fifo-one-is s p m)
-    ∙ oks-process (fifo-middle s p m) p (s (sender m)) (fifo-middle s p m count) r
+pub fifo-one-scene : (s : State) (p m : ℕ) → scene (fifo-one s p m) ≡ scene (fifo-middle s p m)
+fifo-one-scene s p m =
+    ap scene (fifo-one-is s p m) ∙ oks-scene (fifo-middle s p m) p (s (sender m)) (fifo-middle s p m count)
 
 -- a turn at p leaves every other record
 pub fifo-one-there : (s : State) (p m r : ℕ) → p ≢ r → process (fifo-one s p m) r ≡ process s r
 fifo-one-there s p m r n =
-    fifo-one-process s p m r ∙ causal-all-there (fifo-started s p m) p r n ∙ fifo-started-there s p m r n
+    process-local s (fifo-one s p m) r (λ c o. fifo-one-away p s m c (other-away p r c o n))
 
 -- the middle of a turn leaves what no part writes
 pub fifo-middle-still : (s : State) (p m : ℕ) → still (fifo-middle s p m) ≡ still s
-fifo-middle-still s p m = causal-all-still (fifo-started s p m) p ∙ fifo-started-still s p m
+unfolding causal-one merge with-tables raised-next appended put
+fifo-middle-still s p m = causal-all-keeps still p (λ t i. refl) (fifo-started s p m)
 
 -- so does the turn
 pub fifo-one-still : (s : State) (p m : ℕ) → still (fifo-one s p m) ≡ still s
@@ -258,19 +173,19 @@ fifo-one-still s p m =
 
 -- and the whole cascade
 pub cascade-still : (s : State) (p : ℕ) → still (cascade s p) ≡ still s
-unfolding cascade
-cascade-still s p =
-    loop-keeps (λ t. t count) (λ t. ready t p) (λ t. fifo-one t p) (λ t. still t ≡ still s)
-    (λ t m _ _ _ e. fifo-one-still t p m ∙ e) (s count - s (fifo-length p)) s refl
+cascade-still s p = cascade-keeps still p (λ t m. fifo-one-still t p m) s
 
 -- ---- the letters of a turn
--- what p owes, and to whom, looks at what a cascade keeps, and at next
-due-same : (s t : State) (p q m : ℕ) → still t ≡ still s → process t p ≡ process s p
-    → due t p q m ≡ due s p q m
-unfolding due
-due-same s t p q m e f =
-    ap₂ (λ (v : Still) (r : Process). eqb (v .held p m) 1 && eqb (v .ground .messages .sender m) q
-    && eqb (v .ground .messages .number m (v .ground .group p)) (r .next (v .ground .messages .sender m))) e f
+-- its middle leaves them
+fifo-middle-letters : (s : State) (p m : ℕ) → letters (fifo-middle s p m) ≡ letters s
+unfolding causal-one merge with-tables raised-next appended put
+fifo-middle-letters s p m = causal-all-keeps letters p (λ t i. refl) (fifo-started s p m)
+
+-- whether p owes an OK for m of the sender q looks at what a cascade keeps, and at next
+abbrev due-by : Still → (ℕ → ℕ) → ℕ → ℕ → ℕ → Bool
+due-by v nexts p q m =
+    eqb (v .held p m) 1 && eqb (v .ground .messages .sender m) q
+    && eqb (v .ground .messages .number m (v .ground .group p)) (nexts (v .ground .messages .sender m))
 
 -- the addressees look at size, masks and groups
 pub addressees-same : (s t : State) (m : ℕ) → ground t ≡ ground s → addressees t m ≡ addressees s m
@@ -286,20 +201,19 @@ data Sent (s : State) (p q n x k r v : ℕ) : Type 0 where
 sent-more : {s : State} {p q n x k r v : ℕ} → (2 ≡ k → p ≡ r → n ≡ x → due s p q x ≡ false)
     → Sent s p q n x k r v → Sent s p q (suc n) x k r v
 sent-more f (ok a b l d e) = ok a b (omega arith) d e
-sent-more {s} {p} {q} {n} {x} {k} {r} f (old e g) = old e (λ a b l. go a b l (ℕ-discrete n x))
-  where
-    go : 2 ≡ k → p ≡ r → x < suc n → Dec (n ≡ x) → due s p q x ≡ false
-    go a b l (yes d) = f a b d
-    go a b l (no d) = g a b (omega arith)
+sent-more {n = n} {x = x} f (old e g) =
+    old e (λ a b l. elim (ℕ-discrete n x) [ yes d ↦ f a b d | no d ↦ g a b (omega arith) ])
 
 -- the OKs, one after the other
 oks-letters : (s : State) (p q n x k r : ℕ) → Sent s p q n x k r (send-oks s p q n (flight x k r))
-unfolding send-oks send-ok
+unfolding send-oks send-ok due
 oks-letters s p q zero x k r = old refl (λ _ _ l. absurd (not-suc-le-zero l))
 oks-letters s p q (suc n) x k r = go (due (send-oks s p q n) p q n) refl (oks-letters s p q n x k r)
   where
     due-is : due s p q n ≡ due (send-oks s p q n) p q n
-    due-is = sym (due-same s (send-oks s p q n) p q n (oks-still s p q n) (oks-process s p q n p))
+    due-is =
+        sym (ap₂ (λ (v : Still) (w : Scene). due-by v (w .own p .next) p q n) (oks-still s p q n)
+        (oks-scene s p q n))
 
     go : (b : Bool) → due (send-oks s p q n) p q n ≡ b
         → Sent s p q n x k r (send-oks s p q n (flight x k r))
@@ -325,48 +239,31 @@ turned t p m = record {
   next = at-place (λ q. t (next p q)) (t (sender m)) (t (next p (t (sender m))) + 1);
 }
 
--- the FIFO side of a record
-abbrev front-of : Process → Front
-front-of r = record { group = r .group; fifo-length = r .fifo-length; fifo = r .fifo; next = r .next }
-
 -- p's FIFO side in the middle of a turn
 pub fifo-middle-front : (t : State) (p m : ℕ) → front (fifo-middle t p m) p ≡ turned t p m
-unfolding fifo-delivered
-fifo-middle-front t p m = causal-all-front (fifo-started t p m) p ∙ ap front-of (fifo-started-here t p m)
+unfolding causal-one merge with-tables put fifo-delivered
+fifo-middle-front t p m =
+    causal-all-keeps (λ s. front s p) p (λ s i. refl) (fifo-started t p m) ∙ ap front-of (fifo-started-here t p m)
 
 -- and after it
 pub fifo-one-front : (t : State) (p m : ℕ) → front (fifo-one t p m) p ≡ turned t p m
-fifo-one-front t p m = ap front-of (fifo-one-process t p m p) ∙ fifo-middle-front t p m
-
--- next of any process after a turn: as it was, or p's of m's sender, one more
-pub next-cases : (t : State) (p m r q : ℕ) → (fifo-one t p m (next r q) ≡ t (next r q))
-    ⊎ ((p ≡ r) × (t (sender m) ≡ q) × (fifo-one t p m (next r q) ≡ t (next r q) + 1))
-next-cases t p m r q = go (ℕ-discrete p r) (ℕ-discrete (t (sender m)) q)
-  where
-    here : fifo-one t p m (next p q)
-        ≡ at-place (λ x. t (next p x)) (t (sender m)) (t (next p (t (sender m))) + 1) q
-    here = ap (λ (v : Front). v .next q) (fifo-one-front t p m)
-
-    go : Dec (p ≡ r) → Dec (t (sender m) ≡ q) → (fifo-one t p m (next r q) ≡ t (next r q))
-        ⊎ ((p ≡ r) × (t (sender m) ≡ q) × (fifo-one t p m (next r q) ≡ t (next r q) + 1))
-    go (no n) d = inl (ap (λ (v : Process). v .next q) (fifo-one-there t p m r n))
-    go (yes e) (no n) =
-        inl (subst (λ (v : ℕ). fifo-one t p m (next v q) ≡ t (next v q)) e
-        (here ∙ pick-no _ (t (next p q)) (ne-eqb (t (sender m)) q n)))
-    go (yes e) (yes d) =
-        inr (
-          e,
-          d,
-          subst (λ (v : ℕ). fifo-one t p m (next v q) ≡ t (next v q) + 1) e
-              (here ∙ pick-yes _ (t (next p q)) (eq-eqb (t (sender m)) q d)
-              ∙ ap (λ (x : ℕ). t (next p x) + 1) d),
-        )
+fifo-one-front t p m = ap (λ (v : Scene). front-of (v .own p)) (fifo-one-scene t p m) ∙ fifo-middle-front t p m
 
 -- next of m's sender at p has risen
 pub raised : (t : State) (p m : ℕ) → fifo-one t p m (next p (t (sender m))) ≡ t (next p (t (sender m))) + 1
 raised t p m =
     ap (λ (v : Front). v .next (t (sender m))) (fifo-one-front t p m)
     ∙ pick-yes _ (t (next p (t (sender m)))) (eqb-refl (t (sender m)))
+
+-- next of any process after a turn: as it was, or p's of m's sender, one more
+pub next-cases : (t : State) (p m : ℕ) (P : ℕ → ℕ → ℕ → Type 0) → ((r q : ℕ) → P r q (t (next r q)))
+    → P p (t (sender m)) (t (next p (t (sender m))) + 1) → (r q : ℕ) → P r q (fifo-one t p m (next r q))
+next-cases t p m P stays new r q =
+    at-or-off p (λ z. P z q (fifo-one t p m (next z q)))
+    (at-or-off (t (sender m)) (λ z. P p z (fifo-one t p m (next p z))) (rw (raised t p m) new)
+    (λ z n. rw (ap (λ (v : Front). v .next z) (fifo-one-front t p m)
+    ∙ pick-no _ (t (next p z)) (ne-eqb (t (sender m)) z n)) (stays p z)) q)
+    (λ z n. rw (ap (λ (v : Process). v .next q) (fifo-one-there t p m z n)) (stays z q)) r
 
 -- ---- the OKs of a turn, as facts
 -- p sends an OK for x: it holds x, of the same sender as m, and its number is next as it is now
@@ -377,70 +274,46 @@ pub record NewOk (t : State) (p m x : ℕ) : Type 0 where
   pub turn : t (number x (t (group p))) ≡ t (next p (t (sender m))) + 1
 
 module _ (t : State) (p m x : ℕ) where
-  -- the state before the OKs, and what is owed in it
-  mid-sender : fifo-middle t p m (sender x) ≡ t (sender x)
-  mid-sender = ap (λ (v : Still). v .ground .messages .sender x) (fifo-middle-still t p m)
-
-  -- its number at p
-  mid-number : fifo-middle t p m (number x (fifo-middle t p m (group p))) ≡ t (number x (t (group p)))
-  mid-number =
-      ap (λ (v : Still). v .ground .messages .number x (v .ground .group p)) (fifo-middle-still t p m)
-
-  -- whether p holds it
-  mid-held : fifo-middle t p m (held p x) ≡ t (held p x)
-  mid-held = ap (λ (v : Still). v .held p x) (fifo-middle-still t p m)
-
-  -- the count
+  -- the count in the middle of the turn
   mid-count : fifo-middle t p m count ≡ t count
   mid-count = ap (λ (v : Still). v .ground .messages .total) (fifo-middle-still t p m)
 
+  -- what is owed there, by what there was before
+  mid-due : due (fifo-middle t p m) p (t (sender m)) x
+      ≡ due-by (still t) (turned t p m .next) p (t (sender m)) x
+  unfolding due
+  mid-due =
+      ap₂ (λ (v : Still) (f : Front). due-by v (f .next) p (t (sender m)) x) (fifo-middle-still t p m)
+      (fifo-middle-front t p m)
+
   -- next of m's sender has risen
-  mid-next : t (sender x) ≡ t (sender m)
-      → fifo-middle t p m (next p (fifo-middle t p m (sender x))) ≡ t (next p (t (sender m))) + 1
-  mid-next e =
-      ap (λ (q : ℕ). fifo-middle t p m (next p q)) (mid-sender ∙ e)
-      ∙ ap (λ (v : Front). v .next (t (sender m))) (fifo-middle-front t p m)
-      ∙ pick-yes _ (t (next p (t (sender m)))) (eqb-refl (t (sender m)))
+  mid-next : t (sender x) ≡ t (sender m) → turned t p m .next (t (sender x)) ≡ t (next p (t (sender m))) + 1
+  mid-next e = ap (turned t p m .next) e ∙ pick-yes _ (t (next p (t (sender m)))) (eqb-refl (t (sender m)))
 
   -- an OK that is owed is a new one
   owed-facts : x < t count → due (fifo-middle t p m) p (t (sender m)) x ≡ true → NewOk t p m x
-  unfolding due
   owed-facts l e =
-      let u : State = fifo-middle t p m in
-      let q : ℕ = t (sender m) in
-      let a = both-l (both (eqb (u (held p x)) 1) (eqb (u (sender x)) q)) (in-turn u p x) e in
-      let of = sym mid-sender
-      ∙ eqb-true (u (sender x)) q (both-r (eqb (u (held p x)) 1) (eqb (u (sender x)) q) a) in
+      let held-of = both (eqb (t (held p x)) 1) (eqb (t (sender x)) (t (sender m))) in
+      let a = both-l held-of _ (sym mid-due ∙ e) in
+      let of = eqb-true (t (sender x)) (t (sender m)) (both-r (eqb (t (held p x)) 1) _ a) in
       record {
         low = l;
-        has = sym mid-held
-            ∙ eqb-true (u (held p x)) 1 (both-l (eqb (u (held p x)) 1) (eqb (u (sender x)) q) a);
+        has = eqb-true (t (held p x)) 1 (both-l (eqb (t (held p x)) 1) _ a);
         of = of;
-        turn = sym mid-number
-            ∙ eqb-true (u (number x (u (group p)))) (u (next p (u (sender x))))
-            (both-r (both (eqb (u (held p x)) 1) (eqb (u (sender x)) q)) (in-turn u p x) e)
-            ∙ mid-next of;
+        turn = eqb-true (t (number x (t (group p)))) _ (both-r held-of _ (sym mid-due ∙ e)) ∙ mid-next of;
       }
 
   -- and a new one is owed
   owed-is : NewOk t p m x → due (fifo-middle t p m) p (t (sender m)) x ≡ true
-  unfolding due
   owed-is o =
-      let u : State = fifo-middle t p m in
-      rw (
-        eq-eqb (u (held p x)) 1 (mid-held ∙ o .has),
-        eq-eqb (u (sender x)) (t (sender m)) (mid-sender ∙ o .of),
-      ) (eq-eqb (u (number x (u (group p)))) (u (next p (u (sender x))))
-      (mid-number ∙ o .turn ∙ sym (mid-next (o .of))))
+      mid-due ∙ rw (eq-eqb (t (held p x)) 1 (o .has), eq-eqb (t (sender x)) (t (sender m)) (o .of))
+      (eq-eqb (t (number x (t (group p)))) _ (o .turn ∙ sym (mid-next (o .of))))
 
   -- the letters after the turn are those of its middle after the OKs
   after-oks : (k r : ℕ) → Sent (fifo-middle t p m) p (t (sender m)) (fifo-middle t p m count) x k r
       (fifo-one t p m (flight x k r))
   after-oks k r =
-      subst
-      (λ (s : State). Sent (fifo-middle t p m) p (t (sender m)) (fifo-middle t p m count) x k r (s (flight x k r)))
-      (sym (fifo-one-is t p m))
-      (oks-letters (fifo-middle t p m) p (t (sender m)) (fifo-middle t p m count) x k r)
+      rw (fifo-one-is t p m) (oks-letters (fifo-middle t p m) p (t (sender m)) (fifo-middle t p m count) x k r)
 
   -- the addressees are as they were
   mid-to : addressees (fifo-middle t p m) x ≡ addressees t x
@@ -454,13 +327,12 @@ module _ (t : State) (p m x : ℕ) where
   ]
 
   -- a letter of the turn is a new OK, or flies as it did
-  pub letter-cases : (k r : ℕ)
-      → ((2 ≡ k) × (p ≡ r) × NewOk t p m x × (fifo-one t p m (flight x k r) ≡ addressees t x))
-      ⊎ (fifo-one t p m (flight x k r) ≡ t (flight x k r))
-  letter-cases k r = elim (after-oks k r) [
-    | ok a b l d e ↦ inl (a, b, owed-facts (omega (arith, mid-count)) d, e ∙ mid-to)
-    | old e f ↦ inr (e ∙ ap (λ (g : ℕ → ℕ → ℕ → ℕ). g x k r)
-        (causal-all-letters (fifo-started t p m) p ∙ fifo-started-letters t p m))
+  pub letter-cases : (P : ℕ → ℕ → ℕ → Type 0) → ((k r : ℕ) → P k r (t (flight x k r)))
+      → (NewOk t p m x → P 2 p (addressees t x)) → (k r : ℕ) → P k r (fifo-one t p m (flight x k r))
+  letter-cases P same new k r = elim (after-oks k r) [
+    | ok a b l d e ↦ rw (e ∙ mid-to)
+        (subst₂ (λ (j q : ℕ). P j q (addressees t x)) a b (new (owed-facts (omega (arith, mid-count)) d)))
+    | old e f ↦ rw (e ∙ ap (λ (g : ℕ → ℕ → ℕ → ℕ). g x k r) (fifo-middle-letters t p m)) (same k r)
   ]
 
 -- ---- in turn
@@ -469,22 +341,19 @@ abbrev pub Near : State → ℕ → ℕ → Type 0
 Near s x r = s (number x (s (group r))) ≤ s (next r (s (sender x)))
 
 module _ (t : State) (p m x r : ℕ) where
-  -- a turn leaves its number
-  pub turn-number : fifo-one t p m (number x (fifo-one t p m (group r))) ≡ t (number x (t (group r)))
-  turn-number = ap (λ (s : Still). s .ground .messages .number x (s .ground .group r)) (fifo-one-still t p m)
-
-  -- next of its sender, as it is after the turn
-  pub turn-next : fifo-one t p m (next r (fifo-one t p m (sender x))) ≡ fifo-one t p m (next r (t (sender x)))
-  turn-next =
-      ap (λ (q : ℕ). fifo-one t p m (next r q))
-      (ap (λ (s : Still). s .ground .messages .sender x) (fifo-one-still t p m))
+  -- after a turn it depends on next alone
+  pub turn-near : Near (fifo-one t p m) x r
+      ≡ (t (number x (t (group r))) ≤ fifo-one t p m (next r (t (sender x))))
+  turn-near =
+      ap (λ (s : Still). s .ground .messages .number x (s .ground .group r)
+      ≤ fifo-one t p m (next r (s .ground .messages .sender x))) (fifo-one-still t p m)
 
   -- what was in turn or past it still is
   pub near-on : Near t x r → Near (fifo-one t p m) x r
-  near-on h = elim (next-cases t p m r (t (sender x))) [
-    | inl a ↦ omega (arith, turn-number, turn-next, a)
-    | inr a ↦ omega (arith, turn-number, turn-next, a .2)
-  ]
+  near-on h =
+      rw turn-near (next-cases t p m
+      (λ z q v. t (number x (t (group z))) ≤ t (next z q) → t (number x (t (group z))) ≤ v) (λ _ _ l. l)
+      (λ l. omega arith) r (t (sender x)) h)
 
 -- a message with a new OK was out of turn before the delivery
 pub ok-far : (t : State) (p m x : ℕ) → NewOk t p m x → t (next p (t (sender x))) < t (number x (t (group p)))
@@ -493,11 +362,5 @@ ok-far t p m x o = omega (arith, o .turn, ap (λ (q : ℕ). t (next p q)) (o .of
 -- and is in turn after it
 pub ok-near : (t : State) (p m x : ℕ) → NewOk t p m x → Near (fifo-one t p m) x p
 ok-near t p m x o =
-    omega (
-      arith,
-      o .turn,
-      turn-number t p m x p,
-      turn-next t p m x p,
-      raised t p m,
-      ap (λ (q : ℕ). fifo-one t p m (next p q)) (o .of),
-    )
+    rw (turn-near t p m x p)
+    (omega (arith, o .turn, raised t p m, ap (λ (q : ℕ). fifo-one t p m (next p q)) (o .of)))

@@ -1,26 +1,26 @@
 -- What is held is to its holder, and a letter in flight to an addressee: soundness says so, and it stays so
--- while a letter arrives and in the cascade. And the letter that settle chooses is one whose arrival is
--- accepted, and a loss is accepted only where an end is down. Assumes nothing.
-use mathlib.Core.Path.{_≡_, refl, sym, ap, _∙_, subst}
-use mathlib.Core.Bool.{Bool, true, false, not}
+-- while a letter arrives and in the cascade. And a loss is accepted only where an end is down; who holds a
+-- message after a step; what no step changes. Assumes nothing.
+use mathlib.Core.Path.{_≡_, refl, sym, ap, _∙_}
+use mathlib.Core.Bool.{Bool, true, false, not, _&&_}
 use mathlib.Core.Logic.{_⊎_, inl, inr, _≢_}
 use Prim.Native.Nat.{ℕ, _<_}
 use native.Mathlib.Omega.{arith}
-use lib.Dec.{ltb, eqb}
-use borrow.Author.Tests.{lt-ltb, eq-eqb, eqb-false}
+use lib.Dec.{ltb}
+use borrow.Author.Tests.{eqb-true, eqb-false}
 use Rattle.base.specs.Tests.{clash, both, both-r}
-use Rattle.base.specs.Refusals.{needs}
+use Rattle.base.specs.Refusals.{needs-none}
 use Rattle.base.specs.Bits.{bit}
 use Rattle.world.specs.World.{size, count, group, trust, up, held, mask, State, put}
-use Rattle.world.specs.Layout.{put-at}
+use Rattle.world.specs.Layout.{put-other}
 use Rattle.world.specs.Sound.{Sound}
 use Rattle.world.specs.SoundLaws.{size-high, count-high, letter-facts, held-facts}
-use Rattle.world.specs.Machine.{addressed, leave, mark, arrival}
-use Rattle.world.specs.Steps.{arrives, loses, is-process, is-message, is-up, in-flight, refusal, accepted}
-use Rattle.world.specs.StepLaws.{InFlight, Moves}
+use Rattle.world.specs.Machine.{with-tables, addressed, raised, stamped, numbered, posted, multicast, cascade, leave, received, arrival, trust-set, crash}
+use Rattle.world.specs.Steps.{Step, multicasts, arrives, loses, trusts, crashes, malformed, is-process, is-message, is-up, in-flight, refusal, accepted, step}
+use Rattle.world.specs.StepLaws.{InFlight, accepted-arrival}
 use Rattle.effects.specs.Views.{Ground, ground, Still, still}
 use Rattle.effects.specs.Cascade.{cascade-still}
-use Rattle.effects.specs.Arrival.{mark-cases, hold-cases, arrived, arrived-ground}
+use Rattle.effects.specs.Arrival.{Held, received-ground, received-held}
 
 -- what p holds is to p
 abbrev pub HeldTo : State → ℕ → Type 0
@@ -48,71 +48,30 @@ sound-letter s h k m q p l =
     (omega (arith, l .to, size-high s h)) (l .flies) in
     both-r (ltb p (s size)) (addressed s m p) (f .to)
 
--- when a letter has arrived, before the cascade
-held-marked : (s : State) (k m q p x : ℕ) → mark (leave s k m q p) k m q p (held p x) ≡ s (held p x)
-unfolding leave put
-held-marked s k m q p x =
-    mark-cases (λ t. t (held p x) ≡ s (held p x)) (leave s k m q p) k m q p (λ _. refl) (λ _. refl)
-
--- what p holds then it held before, or it is m
-pub held-arrived : (s : State) (k m q p x : ℕ) → arrived s k m q p (held p x) ≡ 1
-    → (s (held p x) ≡ 1) ⊎ (m ≡ x)
-unfolding put
-held-arrived s k m q p x =
-    hold-cases (λ t. t (held p x) ≡ 1 → (s (held p x) ≡ 1) ⊎ (m ≡ x)) (mark (leave s k m q p) k m q p) p m
-    (λ _ d. inl (sym (held-marked s k m q p x) ∙ d))
-    (λ _. put-at (mark (leave s k m q p) k m q p) (held p m) (held p x) _
-    (λ v. v ≡ 1 → (s (held p x) ≡ 1) ⊎ (m ≡ x)) (λ e _. inr (cc))
-    (λ _ d. inl (sym (held-marked s k m q p x) ∙ d)))
-
 -- what p holds when a letter has arrived is to p
-pub arrived-held : (s : State) → Sound s → (k m q p : ℕ) → InFlight s k m q p → HeldTo (arrived s k m q p) p
-arrived-held s h k m q p l x hx d =
-    to-same ∙ elim (held-arrived s k m q p x d) [
-      | inl a ↦ sound-held s h p (l .to) x
-          (omega (arith, ap (λ (v : Ground). v .messages .total) (arrived-ground s k m q p))) a
-      | inr a ↦ subst (λ (y : ℕ). addressed s y p ≡ true) a (sound-letter s h k m q p l)
-    ]
-  where
-    to-same : addressed (arrived s k m q p) x p ≡ addressed s x p
-    to-same = ap (λ (v : Ground). bit (v .messages .mask x) (v .group p)) (arrived-ground s k m q p)
+pub received-to : (s : State) → Sound s → (k m q p : ℕ) → InFlight s k m q p → HeldTo (received s k m q p) p
+received-to s h k m q p l x hx d =
+    ap (λ (v : Ground). bit (v .messages .mask x) (v .group p)) (received-ground s k m q p)
+    ∙ received-held s k m q p (λ r y. r < s size → y < s count → addressed s y r ≡ true)
+    (λ r y a hr hy. sound-held s h r hr y hy a) (λ _ _ _. sound-letter s h k m q p l) p x d (l .to)
+    (omega (arith, ap (λ (v : Ground). v .messages .total) (received-ground s k m q p)))
 
 -- a trust set is replaced
 pub trusted-held : (s : State) → Sound s → (p set : ℕ) → p < s size → HeldTo (put s (trust p) set) p
 unfolding put
 trusted-held s h p set hp m hm d = sound-held s h p hp m hm d
 
--- ---- a letter that settle chooses: its arrival is accepted
-pub chosen-accepted : (s : State) (k m q p : ℕ) → Moves s k m q p → accepted s (arrives k m q p) ≡ true
-unfolding refusal
-chosen-accepted s k m q p a =
-    let l = a .letter in
-    rw (
-      lt-ltb k 3 (l .kind),
-      lt-ltb q (s size) (l .from),
-      lt-ltb p (s size) (l .to),
-      lt-ltb m (s count) (l .message),
-      eq-eqb (s (up p)) 1 (a .to-up),
-      l .flies,
-    )
-
 -- ---- a loss is accepted only where one end is down
 pub loss-needs : (s : State) (k m q p : ℕ) → accepted s (loses k m q p) ≡ true → (s (up q) ≢ 1) ⊎ (s (up p) ≢ 1)
 unfolding refusal
 loss-needs s k m q p e =
+    let a = needs-none 3 (ltb k 3) _ (eqb-true (refusal s (loses k m q p)) 0 e) in
+    let b = needs-none 4 (is-process s q && is-process s p) _ (a .1) in
+    let c = needs-none 6 (is-message s m) _ (b .1) in
+    let d = needs-none 10 (in-flight s k m q p) _ (c .1) in
     which (is-up s q) (is-up s p) refl refl
-    (go (ltb k 3) (both (is-process s q) (is-process s p)) (is-message s m) (in-flight s k m q p)
-    (not (both (is-up s q) (is-up s p))) e)
+    (needs-none 11 (not (is-up s q && is-up s p)) 0 (d .1) .0)
   where
-    go : (a b c d f : Bool) → eqb (needs 4 a (needs 5 b (needs 7 c (needs 11 d (needs 12 f 0))))) 0 ≡ true
-        → f ≡ true
-    go a b c d true z = refl
-    go true true true true false z = clash {b = false} z refl
-    go true true true false false z = clash {b = false} z refl
-    go true true false d false z = clash {b = false} z refl
-    go true false c d false z = clash {b = false} z refl
-    go false b c d false z = clash {b = false} z refl
-
     which : (a b : Bool) → is-up s q ≡ a → is-up s p ≡ b → not (both a b) ≡ true → (s (up q) ≢ 1) ⊎ (s (up p) ≢ 1)
     which false b x y z = inl (eqb-false (s (up q)) 1 x)
     which true false x y z = inr (eqb-false (s (up p)) 1 y)
@@ -122,4 +81,54 @@ loss-needs s k m q p e =
 pub arrival-ground : (s : State) (k m q p : ℕ) → ground (arrival s k m q p) ≡ ground s
 unfolding arrival
 arrival-ground s k m q p =
-    ap (λ (v : Still). v .ground) (cascade-still (arrived s k m q p) p) ∙ arrived-ground s k m q p
+    ap (λ (v : Still). v .ground) (cascade-still (received s k m q p) p) ∙ received-ground s k m q p
+
+-- ---- who holds a message after a step
+-- a letter for m to r is in flight
+pub data Lands (s : State) (r m : ℕ) : Type 0 where
+  lands : (k q : ℕ) → InFlight s k m q r → Lands s r m
+
+-- whoever holds it after a step held it before, or a letter for it was in flight
+pub step-held : (s : State) (x : Step) → accepted s x ≡ true → (r m : ℕ) → Held (step s x) r m
+    → Held s r m ⊎ Lands s r m
+unfolding step multicast posted numbered stamped raised with-tables arrival trust-set leave crash put
+step-held s (multicasts p groups) e r m h = inl h
+step-held s (arrives k x q p) e r m h =
+    received-held s k x q p (λ u y. Held s u y ⊎ Lands s u y) (λ _ _ a. inl a)
+    (λ _. inr (lands k q (accepted-arrival s k x q p e .letter))) r m
+    (sym (ap (λ (v : Still). v .held r m) (cascade-still (received s k x q p) p)) ∙ h)
+step-held s (loses k x q p) e r m h = inl h
+step-held s (trusts p set) e r m h =
+    inl (sym (ap (λ (v : Still). v .held r m) (cascade-still (put s (trust p) set) p)) ∙ h)
+step-held s (crashes p) e r m h = inl h
+step-held s malformed e r m h = inl h
+
+-- ---- what no step changes
+-- how many processes there are, their groups, and the masks of the messages that there are
+abbrev pub Lasting : State → State → Type 0
+Lasting s t =
+    (t size ≡ s size) × ((p : ℕ) → t (group p) ≡ s (group p))
+    × ((m : ℕ) → m < s count → t (mask m) ≡ s (mask m))
+
+-- where the ground is the same they are
+lasts : (s t : State) → ground t ≡ ground s → Lasting s t
+lasts s t e = (
+  ap (λ (v : Ground). v .size) e,
+  (λ p. ap (λ (v : Ground). v .group p) e),
+  λ m _. ap (λ (v : Ground). v .messages .mask m) e,
+)
+
+pub step-lasting : (s : State) (x : Step) → Lasting s (step s x)
+unfolding step multicast posted numbered stamped raised with-tables trust-set leave crash put
+step-lasting s (multicasts p groups) = (
+  refl,
+  (λ _. refl),
+  λ m l. put-other s (mask (s count)) (mask m) groups (λ e. let z : s count ≡ m = cc in omega arith),
+)
+step-lasting s (arrives k m q p) = lasts s (arrival s k m q p) (arrival-ground s k m q p)
+step-lasting s (loses k m q p) = (refl, (λ _. refl), λ _ _. refl)
+step-lasting s (trusts p set) =
+    let u : State = put s (trust p) set in
+    lasts u (cascade u p) (ap (λ (v : Still). v .ground) (cascade-still u p))
+step-lasting s (crashes p) = (refl, (λ _. refl), λ _ _. refl)
+step-lasting s malformed = (refl, (λ _. refl), λ _ _. refl)

@@ -3,4 +3,5 @@ pub mod Cascade
 pub mod Arrival
 pub mod Holding
 pub mod Spent
+pub mod Events
 pub mod Runs

@@ -2,15 +2,14 @@
 -- arrivals that it makes, each of which would be accepted. Assumes nothing.
 use mathlib.Core.Path.{_≡_, refl}
 use mathlib.Core.Bool.{Bool, true, false}
-use mathlib.Core.List.{List, [], _∷_}
+use mathlib.Core.List.{List, [], _∷_, _++_}
 use Rattle.base.specs.Tests.{pick}
 use Rattle.world.specs.World.{State}
 use Rattle.world.specs.Steps.{Step, arrives, read, accepted}
-use Rattle.world.specs.StepLaws.{lowest-moves}
+use Rattle.world.specs.StepLaws.{lowest-moves, moves-taken}
 use Rattle.world.specs.Settle.{lowest}
 use Rattle.world.specs.SettleLaws.{settle-keeps}
 use Rattle.world.specs.History.{Run, Item, given, settling, on-states, taken, tick, settles, act, run}
-use Rattle.effects.specs.Holding.{chosen-accepted}
 
 module _ (P : Run State → Type 0)
     (keep : (r : Run State) (x : Step) → accepted (r .now) x ≡ true → P r → P (taken on-states r x)) where
@@ -25,10 +24,17 @@ module _ (P : Run State → Type 0)
   act-keeps r (settling b) w =
       settle-keeps (λ t. lowest (t .now)) (λ t k m q p. taken on-states t (arrives k m q p)) P
       (λ t k m q p e. keep t (arrives k m q p)
-      (chosen-accepted (t .now) k m q p (lowest-moves (t .now) k m q p e))) b 0 r w
+      (moves-taken (t .now) k m q p (lowest-moves (t .now) k m q p e))) b 0 r w
 
   -- a list
   pub run-keeps : (r : Run State) (items : List Item) → P r → P (run on-states r items)
   unfolding run
   run-keeps r [] w = w
   run-keeps r (i ∷ items) w = run-keeps (act on-states r i) items (act-keeps r i w)
+
+-- a list, then another
+pub run-append : (r : Run State) (is js : List Item)
+    → run on-states r (is ++ js) ≡ run on-states (run on-states r is) js
+unfolding run
+run-append r [] js = refl
+run-append r (i ∷ is) js = run-append (act on-states r i) is js

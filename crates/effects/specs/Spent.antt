@@ -2,9 +2,8 @@
 -- once its message is multicast, a relay once its origin holds the message, an OK once its origin holds it in
 -- turn or past it. What is sent was not spent before and is spent after, and what is spent stays so. Assumes
 -- nothing.
-use mathlib.Core.Path.{_≡_, refl, ap, _∙_, subst, subst₂}
+use mathlib.Core.Path.{_≡_, refl, sym, ap, _∙_, subst}
 use mathlib.Core.Bool.{Bool, true, false}
-use mathlib.Core.List.{[]}
 use mathlib.Core.Logic.{_⊎_, inl, inr, _≢_}
 use Prim.Native.Nat.{ℕ, zero, suc, _-_, _≤_, _<_}
 use native.Mathlib.Omega.{arith}
@@ -12,15 +11,16 @@ use borrow.Author.Tests.{eqb-true, ne-eqb}
 use Rattle.base.specs.Tests.{pick, pick-no}
 use Rattle.base.specs.Loop.{loop-keeps}
 use Rattle.base.specs.Bits.{bit}
-use Rattle.world.specs.World.{count, group, trust, up, fifo-length, next, held, sender, number, flight, State, put}
+use Rattle.world.specs.World.{count, group, trust, up, fifo-length, next, held, sender, number, State, put}
 use Rattle.world.specs.Layout.{put-at, put-other}
 use Rattle.world.specs.Machine.{with-tables, addressees, in-turn, ready, fifo-one, cascade, raised, stamped, numbered, multicast, leave, mark, hold, arrival, trust-set, crash}
 use Rattle.world.specs.Machine.{posted as post}
 use Rattle.world.specs.Steps.{Step, multicasts, arrives, loses, trusts, crashes, malformed, accepted, step}
 use Rattle.world.specs.StepLaws.{accepted-arrival}
-use Rattle.effects.specs.Views.{Still}
+use Rattle.world.specs.Kept.{mark-cases, hold-cases, holding}
+use Rattle.effects.specs.Views.{Scene, scene, Still}
 use Rattle.effects.specs.Cascade.{Near, near-on, ok-far, ok-near, letter-cases, fifo-one-still}
-use Rattle.effects.specs.Arrival.{mark-cases, hold-cases, Held, Fly, holding, leave-less}
+use Rattle.effects.specs.Arrival.{Held, Fly, put-letter, leave-less}
 
 -- ---- a letter that cannot be sent any more
 abbrev pub SentBy : State → ℕ → ℕ → ℕ → Type 0
@@ -47,14 +47,21 @@ spent-on o (suc zero) m q (h, x) = (omega (arith, o .grows), o .held-on m q h x)
 spent-on o (suc (suc k)) m q (h, x) =
     (omega (arith, o .grows), (o .held-on m q h (x .0), o .near-on m q h (x .1)))
 
+-- a change that concerns no process's record and nothing that is held, and sends nothing
+once-by : (s t : State) → scene t ≡ scene s → _≡_ {A = ℕ → ℕ → ℕ} (λ r m. t (held r m)) (λ r m. s (held r m))
+    → ((k m q u : ℕ) → Fly t m k q u → Fly s m k q u) → Once s t
+once-by s t e h less = record {
+  grows = omega (arith, ap (λ (v : Scene). v .messages .total) e);
+  held-on = λ m r _ d. ap (λ (g : ℕ → ℕ → ℕ). g r m) h ∙ d;
+  near-on = λ m r _.
+      subst (λ (v : Scene). v .messages .number m (v .own r .group) ≤ v .own r .next (v .messages .sender m))
+      (sym e);
+  new-letter = λ k m q u f. inl (less k m q u f);
+}
+
 -- no change at all
 pub once-self : (s : State) → Once s s
-once-self s = record {
-  grows = omega arith;
-  held-on = λ m r _ h. h;
-  near-on = λ m r _ h. h;
-  new-letter = λ k m q u f. inl f;
-}
+once-self s = once-by s s refl refl (λ _ _ _ _ f. f)
 
 -- one change after another
 pub once-then : {s t u : State} → Once s t → Once t u → Once s u
@@ -74,24 +81,13 @@ once-then {s} {t} {u} a b = record {
 -- ---- the parts of a step
 pub leave-once : (s : State) (k m q p : ℕ) → Once s (leave s k m q p)
 unfolding leave put
-leave-once s k m q p = record {
-  grows = omega arith;
-  held-on = λ x r _ h. h;
-  near-on = λ x r _ h. h;
-  new-letter = λ j x o u f. inl (leave-less s k m q p x j o u f);
-}
+leave-once s k m q p = once-by s (leave s k m q p) refl refl (λ j x o u. leave-less s k m q p x j o u)
 
 -- a mark sends nothing
 pub mark-once : (s : State) (k m q p : ℕ) → Once s (mark s k m q p)
 unfolding put
-mark-once s k m q p = mark-cases (Once s) s k m q p
-    (λ _. record {
-      grows = omega arith;
-      held-on = λ x r _ h. h;
-      near-on = λ x r _ h. h;
-      new-letter = λ j x o u f. inl f;
-    })
-    (λ _. once-self s)
+mark-once s k m q p =
+    mark-cases (Once s) s k m q p (λ _. once-by s _ refl refl (λ _ _ _ _ f. f)) (λ _. once-self s)
 
 -- the answer to a message that is first held
 pub hold-once : (s : State) (p m : ℕ) → m < s count → Once s (hold s p m)
@@ -100,10 +96,10 @@ hold-once s p m hm = hold-cases (Once s) s p m (λ _. once-self s) (λ new. reco
   grows = omega arith;
   held-on = λ x r _ h. put-at s (held p m) (held r x) 1 (λ v. v ≡ 1) (λ _. refl) (λ _. h);
   near-on = λ x r _ h. h;
-  new-letter = λ k x o u. put-at s (flight m (pick (in-turn s p m) 2 1) p) (flight x k o) (addressees s m)
-      (λ v. bit v u ≡ true
+  new-letter = λ k x o u. put-letter s m (pick (in-turn s p m) 2 1) p (addressees s m)
+      (λ x k o v. bit v u ≡ true
       → Fly s x k o u ⊎ ((¬ Spent s k x o) × Spent (holding s p m (pick (in-turn s p m) 2 1)) k x o))
-      (λ e _. inr (answered new k x o (cc) (cc) (cc))) (λ _ f. inl f);
+      (λ _. inr (kinds new (in-turn s p m) refl)) (λ _ _ _ f. inl f) x k o;
 })
   where
     holds : put s (held p m) 1 (held p m) ≡ 1
@@ -117,26 +113,20 @@ hold-once s p m hm = hold-cases (Once s) s p m (λ _. once-self s) (λ new. reco
     )
     kinds new false e = ((λ z. new (z .1)), (hm, holds))
 
-    answered : s (held p m) ≢ 1 → (k x o : ℕ) → m ≡ x → pick (in-turn s p m) 2 1 ≡ k → p ≡ o
-        → (¬ Spent s k x o) × Spent (holding s p m (pick (in-turn s p m) 2 1)) k x o
-    answered new k x o em ek eo =
-        subst₂ (λ (y z : ℕ). (¬ Spent s k y z) × Spent (holding s p m (pick (in-turn s p m) 2 1)) k y z) em eo
-        (subst (λ (j : ℕ). (¬ Spent s j m p) × Spent (holding s p m (pick (in-turn s p m) 2 1)) j m p) ek
-        (kinds new (in-turn s p m) refl))
-
 -- a turn of the cascade: the OKs are for messages that come in turn now
 pub turn-once : (t : State) (p m : ℕ) → Once t (fifo-one t p m)
 turn-once t p m = record {
   grows = omega (arith, count-is);
   held-on = λ x r _ h. held-is r x ∙ h;
   near-on = λ x r _. near-on t p m x r;
-  new-letter = λ k x q u f. elim (letter-cases t p m x k q) [
-    | inr c ↦ inl (subst (λ (v : ℕ). bit v u ≡ true) c f)
-    | inl c ↦ inr (subst₂ (λ (j o : ℕ). (¬ Spent t j x o) × Spent (fifo-one t p m) j x o) (c .0) (c .1) (
-      (λ z. absurd (omega (arith, z .1 .1, ok-far t p m x (c .2)))),
-      (omega (arith, count-is, c .2 .low), (held-is p x ∙ c .2 .has, ok-near t p m x (c .2))),
-    ))
-  ];
+  new-letter = λ k x q u.
+      letter-cases t p m x
+      (λ k q v. bit v u ≡ true → Fly t x k q u ⊎ ((¬ Spent t k x q) × Spent (fifo-one t p m) k x q))
+      (λ _ _ f. inl f)
+      (λ c _. inr (
+        (λ z. absurd (omega (arith, z .1 .1, ok-far t p m x c))),
+        (omega (arith, count-is, c .low), (held-is p x ∙ c .has, ok-near t p m x c)),
+      )) k q;
 }
   where
     count-is : fifo-one t p m count ≡ t count
@@ -160,10 +150,11 @@ multicast-once s p groups = record {
   grows = omega arith;
   held-on = λ x r _ h. h;
   near-on = λ x r hx h. omega (arith, h, number-is x r hx, ap (λ (q : ℕ). s (next r q)) (sender-is x hx));
-  new-letter =
-      λ k x q u. put-at s (flight (s count) 0 p) (flight x k q) (addressees (multicast s p groups) (s count))
-      (λ v. bit v u ≡ true → Fly s x k q u ⊎ ((¬ Spent s k x q) × Spent (multicast s p groups) k x q))
-      (λ e _. inr (first k x q (cc) (cc))) (λ _ f. inl f);
+  new-letter = λ k x q u.
+      put-letter s (s count) 0 p (addressees (multicast s p groups) (s count))
+      (λ x k q v. bit v u ≡ true
+      → Fly s x k q u ⊎ ((¬ Spent s k x q) × Spent (multicast s p groups) k x q))
+      (λ _. inr ((λ z. absurd (omega (arith, z .0))), (omega arith, tt))) (λ _ _ _ f. inl f) x k q;
 }
   where
     number-is : (x r : ℕ) → x < s count
@@ -173,33 +164,6 @@ multicast-once s p groups = record {
     sender-is : (x : ℕ) → x < s count → multicast s p groups (sender x) ≡ s (sender x)
     sender-is x hx =
         put-other s (sender (s count)) (sender x) p (λ e. let z : s count ≡ x = cc in omega arith)
-
-    first : (k x q : ℕ) → s count ≡ x → 0 ≡ k → (¬ Spent s k x q) × Spent (multicast s p groups) k x q
-    first k x q ex ek = (
-      (λ z. absurd (omega (arith, z .0))),
-      subst (λ (j : ℕ). Spent (multicast s p groups) j x q) ek
-          (omega arith, tt),
-    )
-
--- neither a trust set nor a crash concerns a letter
-trusted-once : (s : State) (p set : ℕ) → Once s (put s (trust p) set)
-unfolding put
-trusted-once s p set = record {
-  grows = omega arith;
-  held-on = λ x r _ h. h;
-  near-on = λ x r _ h. h;
-  new-letter = λ j x o u f. inl f;
-}
-
--- nor a crash
-crashed-once : (s : State) (p : ℕ) → Once s (put s (up p) 0)
-unfolding put
-crashed-once s p = record {
-  grows = omega arith;
-  held-on = λ x r _ h. h;
-  near-on = λ x r _ h. h;
-  new-letter = λ j x o u f. inl f;
-}
 
 -- the message is one still
 pub marked-low : (s : State) (k m q p : ℕ) → m < s count → m < mark (leave s k m q p) k m q p count
@@ -222,6 +186,7 @@ step-once s (arrives k m q p) e =
     once-then (leave-once s k m q p)
     (arrived-once s k m q p (accepted-arrival s k m q p e .letter .message))
 step-once s (loses k m q p) e = leave-once s k m q p
-step-once s (trusts p set) e = once-then (trusted-once s p set) (cascade-once (put s (trust p) set) p)
-step-once s (crashes p) e = crashed-once s p
+step-once s (trusts p set) e =
+    once-then (once-by s (put s (trust p) set) refl refl (λ _ _ _ _ f. f)) (cascade-once (put s (trust p) set) p)
+step-once s (crashes p) e = once-by s (put s (up p) 0) refl refl (λ _ _ _ _ f. f)
 step-once s malformed e = once-self s

@@ -1,8 +1,11 @@
 -- Views of a state: the records of all messages, the own record of one process, the letters in flight, and
 -- what no cascade changes. Two states with the same view agree on all its cells, so that what is said of a
--- view need not be said again of each state. Assumes nothing.
+-- view need not be said again of each state. A change that leaves a process's own words leaves its record.
+-- Assumes nothing.
+use mathlib.Core.Path.{_≡_, refl}
 use Prim.Native.Nat.{ℕ}
-use Rattle.world.specs.World.{size, count, group, trust, counter, sequence, next, delivered, up, fifo-length, causal-length, held, marks, fifo, causal, sender, mask, stamp, number, flight, State}
+use Rattle.world.specs.Local.{Own}
+use Rattle.world.specs.World.{Cell, size, count, group, trust, counter, sequence, next, delivered, up, fifo-length, causal-length, held, marks, fifo, causal, sender, mask, stamp, number, flight, State}
 
 -- ---- the messages: how many, and of each its sender, mask, counters and sequence numbers
 pub record Messages : Type 0 where
@@ -47,6 +50,16 @@ process s p = record {
   counter = λ g q. s (counter p g q);
   sequence = λ g. s (sequence p g);
 }
+
+-- ---- what the order of the logs looks at: how many processes, the messages, each process's record
+pub record Scene : Type 0 where
+  pub size : ℕ
+  pub messages : Messages
+  pub own : ℕ → Process
+
+-- of a state
+abbrev pub scene : State → Scene
+scene s = record { size = s size; messages = messages s; own = process s }
 
 -- ---- the letters in flight: of message m, kind k and origin q, the receivers
 abbrev pub letters : State → ℕ → ℕ → ℕ → ℕ
@@ -107,3 +120,31 @@ place-of p v r = record {
 -- of p in a state
 abbrev pub place : State → ℕ → Place
 place s p = place-of p (still s) (process s p)
+
+-- ---- a change that leaves r's own words as they were
+module _ (s t : State) (r : ℕ) (e : (c : Cell) → Own r c → t c ≡ s c) where
+  -- leaves its record
+  pub process-local : process t r ≡ process s r
+  process-local = λ j. record {
+    group = e (group r) refl j;
+    fifo-length = e (fifo-length r) refl j;
+    fifo = λ i. e (fifo r i) refl j;
+    causal-length = e (causal-length r) refl j;
+    causal = λ i. e (causal r i) refl j;
+    next = λ q. e (next r q) refl j;
+    delivered = λ q. e (delivered r q) refl j;
+    counter = λ g q. e (counter r g q) refl j;
+    sequence = λ g. e (sequence r g) refl j;
+  }
+
+  -- and, with the ground, what it looks at
+  pub place-local : ground t ≡ ground s → place t r ≡ place s r
+  place-local g = λ j. record {
+    size = g j .size;
+    messages = g j .messages;
+    groups = g j .group;
+    own = process-local j;
+    trust = e (trust r) refl j;
+    held = λ m. e (held r m) refl j;
+    marks = λ m. e (marks r m) refl j;
+  }

@@ -12,12 +12,13 @@ use borrow.Author.Tests.{ltb-true, lt-ltb, le-leb, leb-true, eqb-true, eq-eqb, n
 use Rattle.base.specs.Tests.{clash, both, both-l, both-r, both-i, pick}
 use Rattle.base.specs.Count.{in-at, absent, absent-out, room-left}
 use Rattle.base.specs.Loop.{loop-keeps}
-use Rattle.base.specs.Bits.{bit, with}
+use Rattle.base.specs.Bits.{bit}
 use Rattle.world.specs.World.{size, count, rule, group, trust, counter, sequence, next, delivered, up, fifo-length, causal-length, held, marks, fifo, causal, sender, mask, stamp, number, flight, order, unused, State, Within, put}
 use Rattle.world.specs.Layout.{put-at}
 use Rattle.world.specs.Sound.{Frame, frame, process, message, present, addressee, sends, logged-of, fit, fine, Sound}
 use Rattle.world.specs.SoundLaws.{size-high, count-high, sender-low, fifo-addressed, fifo-once, Addressed, held-facts, letter-facts}
-use Rattle.world.specs.Machine.{addressees, in-turn, outside-fifo, ready, causal-all, appended, raised-next, fifo-one, cascade, leave, mark, hold, arrival, trust-set}
+use Rattle.world.specs.Machine.{in-turn, outside-fifo, ready, causal-all, appended, raised-next, fifo-one, cascade, leave, mark, hold, received, arrival, trust-set}
+use Rattle.world.specs.Kept.{marked-keeps, received-keeps}
 use Rattle.keeps.specs.Forms.{word-to}
 use Rattle.keeps.specs.Logs.{Longer, put-longer, longer-item, longer-bound, longer-length, longer-listed, longer-tally, item-weaker}
 use Rattle.keeps.specs.Changes.{SoundAt, leave-sound, mark-sound, hold-sound, send-oks-sound, trust-put-sound}
@@ -185,30 +186,7 @@ ok-from : (f : Frame) (m k q : ℕ) → k ≡ 2 → sends f m k q ≡ true → a
 unfolding sends
 ok-from f m k q d e = ap (λ (j : ℕ). sends f m j q) (sym d) ∙ e
 
--- marks and held flags are no part of the frame
-mark-frame : (s : State) (k m q p : ℕ) → frame (mark s k m q p) ≡ frame s
-unfolding mark put
-mark-frame s k m q p = go (eqb k 2)
-  where
-    go : (b : Bool) → frame (pick b (put s (marks p m) (with (s (marks p m)) q)) s) ≡ frame s
-    go true = refl
-    go false = refl
-
--- nor are held flags and letters
-hold-frame : (s : State) (p m : ℕ) → frame (hold s p m) ≡ frame s
-unfolding hold put
-hold-frame s p m = go (eqb (s (held p m)) 1)
-  where
-    go : (b : Bool)
-        → frame (pick b s (put (put s (held p m) 1) (flight m (pick (in-turn s p m) 2 1) p) (addressees s m)))
-        ≡ frame s
-    go true = refl
-    go false = refl
-
--- An arrival before its cascade: the letter has left flight, an OK has set its mark, the message is held.
-abbrev pub received : State → ℕ → ℕ → ℕ → ℕ → State
-received s k m q p = hold (mark (leave s k m q p) k m q p) p m
-
+-- An arrival before its cascade.
 pub received-sound : (s : State) (k m q p : ℕ) → k < 3 → m < s count → q < s size → p < s size
     → bit (s (flight m k q)) p ≡ true → Sound s → SoundAt p (received s k m q p)
 unfolding leave put
@@ -220,12 +198,13 @@ received-sound s k m q p hk hm hq hp e h =
     let u : State = mark t k m q p in
     let hu : Sound u = mark-sound t k m q p (room .0) (room .2) (record { of = z .of; to = z .to })
     (λ d. ok-from (frame s) m k q d (z .from)) ht in
-    let f : frame u ≡ frame s = mark-frame t k m q p in
+    let f : frame u ≡ frame s = marked-keeps s k m q p frame (λ _ _ _ _. refl) (λ _ _. refl) in
     let hv : Sound (hold u p m) = hold-sound u p m (record {
       of = ap (λ (x : Frame). message x m) f ∙ z .of;
       to = ap (λ (x : Frame). addressee x m p) f ∙ z .to;
     }) hu in
-    (hv, subst (λ (n : ℕ). p < n) (sym (ap (λ (x : Frame). x .n) (hold-frame u p m ∙ f))) hp)
+    let n = received-keeps s k m q p (λ t. t size) (λ _ _ _ _. refl) (λ _ _. refl) (λ _ _. refl) in
+    (hv, omega arith)
 
 pub arrival-sound : (s : State) (k m q p : ℕ) → k < 3 → m < s count → q < s size → p < s size
     → bit (s (flight m k q)) p ≡ true → Sound s → Sound (arrival s k m q p)

@@ -1,7 +1,7 @@
 -- The known runs on lent words: whatever 20,480 words are lent, each row's setup record gives its refusal,
 -- and the calls in turn give the refusals, the answers and the logs of its lines. One theorem carries a row
 -- that passes on states to the words, so the table is computed once and on states. Assumes nothing.
-use mathlib.Core.Path.{_≡_, refl, sym, ap, ap₂, _∙_, subst}
+use mathlib.Core.Path.{_≡_, refl, sym, ap, ap₂, _∙_}
 use mathlib.Core.Bool.{Bool, true, false, _&&_}
 use mathlib.Core.List.{List, [], _∷_}
 use Prim.Native.Nat.{ℕ}
@@ -21,7 +21,8 @@ use Rattle.world.specs.Settle.{Ending, done, stopped, settle}
 use Rattle.world.specs.Words.{gives, making-refusal, made-words, step-refusal, stepped-words, settled-words, settle-reply, log-words}
 use Rattle.keeps.specs.Keeps.{fresh-sound, after-sound, settle-sound}
 use Rattle.carried.specs.Calls.{view-agree}
-use Rattle.carried.specs.Calls.{refusal-carried, step-carried, settle-carried, reply-carried, making-carried, made-carried, log-carried}
+use Rattle.carried.specs.Calls.{refusal-carried, step-carried, making-carried, made-carried, log-carried}
+use Rattle.carried.specs.Carried.{settle-carried, reply-carried}
 use Rattle.known.specs.Runs.{Line, takes, settles, shows, Row, plays, checks, same-list, same-flag, same-ending, lines-pass, row-passes, all-pass, table, known-runs}
 
 -- ---- what a row says of words
@@ -76,7 +77,7 @@ lines-carried s h (takes bytes n ∷ ls) e =
     let rest = lines-carried t (after-sound s (read bytes) h) ls
     (both-r (eqb (refusal s (read bytes)) n) (lines-pass t ls) e) in (
       refusal-carried s h bytes ∙ eqb-true (refusal s (read bytes)) n a,
-      subst (λ (w : List ℕ). LinesHold w ls) (sym (step-carried s h bytes)) rest,
+      rw (step-carried s h bytes) rest,
     )
 lines-carried s h (settles b x ∷ ls) e =
     let t : State = settle s b .world in
@@ -84,7 +85,7 @@ lines-carried s h (settles b x ∷ ls) e =
     let rest = lines-carried t (settle-sound s b h) ls
     (both-r (same-ending (settle s b .ending) x) (lines-pass t ls) e) in (
       reply-carried s h b ∙ ap gives (ending-same (settle s b .ending) x a),
-      subst (λ (w : List ℕ). LinesHold w ls) (sym (settle-carried s h b)) rest,
+      rw (settle-carried s h b) rest,
     )
 lines-carried s h (shows p live fs cs ∷ ls) e =
     let here : Bool = is-process s p in
@@ -111,8 +112,7 @@ row-carried w l (plays setup n ls) e =
       setup-answer = making-carried w setup l ∙ a;
       lines-hold = λ z.
           (let ok : setup-refusal setup ≡ 0 = a ∙ z in
-          subst (λ (u : List ℕ). LinesHold u ls) (sym (made-carried w setup l ok))
-          (lines-carried (made setup) (fresh-sound setup ok) ls rest));
+          rw (made-carried w setup l ok) (lines-carried (made setup) (fresh-sound setup ok) ls rest));
     }
 row-carried w l (checks records n) e = eqb-true (check-of (block 0 records)) n e
 

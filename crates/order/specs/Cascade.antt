@@ -1,28 +1,29 @@
 -- What the counters and logs of a state mean, given its history (Meaning), and that the cascade keeps it:
 -- each causal delivery, each FIFO delivery with next raised, the OKs, and so the two loops. At the end
 -- nothing is left to deliver causally, since the fuel suffices (Fuel of world). Assumes nothing.
-use mathlib.Core.Path.{_≡_, refl, sym, ap, ap₂, _∙_, subst}
+use mathlib.Core.Path.{_≡_, refl, sym, ap, ap₂, _∙_, subst₂}
 use mathlib.Core.Bool.{Bool, true, false, _&&_}
 use mathlib.Core.List.{List, _∷_}
 use mathlib.Core.Logic.{inl, inr, _≢_}
-use Prim.Native.Nat.{ℕ, zero, suc, _+_, _-_, _≤_, _<_}
+use Prim.Native.Nat.{ℕ, suc, _+_, _-_, _≤_, _<_}
 use native.Mathlib.Omega.{arith}
 use lib.Dec.{leb, eqb}
 use borrow.Author.Tests.{eqb-true, eqb-false, ne-eqb, leb-true, leb-false}
-use Rattle.base.specs.Tests.{clash, both, both-l, both-r, either, at-or-off}
+use Rattle.base.specs.Tests.{clash, both-l, both-r, either, at-or-off}
 use Rattle.base.specs.Search.{every, every-true, every-false}
 use Rattle.base.specs.Loop.{loop-keeps}
-use Rattle.base.specs.Count.{In, absent-in, absent-out, in-dec}
+use Rattle.base.specs.Count.{In, absent-out, out-absent, in-dec}
 use Rattle.world.specs.World.{size, count, group, fifo-length, causal-length, fifo, causal, next, delivered, held, sender, stamp, number, State, put}
 use Rattle.world.specs.Machine.{with-tables, addressed, in-turn, outside-fifo, outside-causal, marked, ready, fits, deliverable, deliverable-at, merge, causal-one, causal-all, appended, raised-next, fifo-one, cascade}
 use Rattle.world.specs.History.{Event, got, deliveries, grown}
 use Rattle.world.specs.Fuel.{causal-ends}
 use Rattle.effects.specs.Holding.{HeldTo, held-to}
-use Rattle.effects.specs.Views.{Messages, messages, Process, process, Ground, ground, Still, still}
-use Rattle.effects.specs.Cascade.{fifo-delivered, causal-delivered, fifo-started, fifo-started-here, fifo-started-there, causal-one-here, causal-one-there, fifo-middle, fifo-middle-still, fifo-one-process, fifo-one-still, fifo-one-there}
+use Rattle.effects.specs.Events.{deliveries-same}
+use Rattle.effects.specs.Views.{Messages, messages, Process, process, Scene, scene, Still, still}
+use Rattle.effects.specs.Cascade.{fifo-delivered, causal-delivered, fifo-started, fifo-started-here, fifo-started-there, causal-one-here, causal-one-there, fifo-middle, fifo-middle-still, fifo-one-scene, fifo-one-still, fifo-one-there}
 use Rattle.order.specs.Knowledge.{Knowledge, learn, knowledge}
 use Rattle.order.specs.Counters.{counted, all-of, Counting, counting-got, counter-here, counter-there}
-use Rattle.order.specs.Logs.{at-here, at-else, FifoLogOf, fifo-log-more, CausalLog, causal-log-fifo, causal-log-more, Waits, waits, Stuck, Quiet}
+use Rattle.order.specs.Logs.{at-here, at-else, FifoLogOf, fifo-log-more, CausalLogOf, causal-log-fifo, causal-log-more, Waits, waits, Stuck, Quiet}
 
 -- ---- the logs of a state
 -- "A process has FIFO-delivered or causally delivered exactly the messages in its log of that name"
@@ -39,7 +40,7 @@ pub record Means (w : Messages) (k : Knowledge) (p : ℕ) (r : Process) : Type 0
   pub counters : (g q : ℕ) → r .counter g q ≡ counted w (k .past p) q g
   pub sequences : (g : ℕ) → r .sequence g ≡ all-of w p g
   pub fifo-log : FifoLogOf w r
-  pub causal-log : CausalLog w (k .before) r
+  pub causal-log : CausalLogOf w (k .before) r
 
 -- of the messages and all processes
 pub record Meaning (n : ℕ) (w : Messages) (ps : ℕ → Process) (k : Knowledge) : Type 0 where
@@ -47,30 +48,18 @@ pub record Meaning (n : ℕ) (w : Messages) (ps : ℕ → Process) (k : Knowledg
   pub each : (p : ℕ) → Means w k p (ps p)
 
 -- the meaning of a state's cells, given the events
+abbrev pub MeaningIn : List Event → Scene → Type 0
+MeaningIn es v = Meaning (v .size) (v .messages) (v .own) (knowledge es)
+
 abbrev pub MeaningOf : State → List Event → Type 0
-MeaningOf s es = Meaning (s size) (messages s) (process s) (knowledge es)
+MeaningOf s es = MeaningIn es (scene s)
 
 -- nothing is left to deliver causally, at any process
+abbrev pub QuietIn : Scene → Type 0
+QuietIn v = (p : ℕ) → Quiet (v .size) (v .messages) (v .own p)
+
 abbrev pub QuietOf : State → Type 0
-QuietOf s = (p : ℕ) → Quiet (s size) (messages s) (process s p)
-
--- states with the same views
-module _ (s t : State) (e : messages t ≡ messages s) (z : t size ≡ s size)
-    (f : (r : ℕ) → process t r ≡ process s r) where
-  pub meaning-same : (es : List Event) → MeaningOf s es → MeaningOf t es
-  meaning-same es o =
-      subst (λ (n : ℕ). Meaning n (messages t) (process t) (knowledge es)) (sym z)
-      (subst (λ (w : Messages). Meaning (s size) w (process t) (knowledge es)) (sym e) (record {
-        counting = o .counting;
-        each = λ p. subst (Means (messages s) (knowledge es) p) (sym (f p)) (o .each p);
-      }))
-
-  -- nothing is left to deliver in them either
-  pub quiet-same : QuietOf s → QuietOf t
-  quiet-same q p =
-      subst (λ (n : ℕ). Quiet n (messages t) (process t p)) (sym z)
-      (subst (λ (w : Messages). Quiet (s size) w (process t p)) (sym e)
-      (subst (Quiet (s size) (messages s)) (sym (f p)) (q p)))
+QuietOf s = QuietIn (scene s)
 
 -- ---- the tests, as facts
 -- "for all q other than the sender, the message's C[group of p][q] is at most del[q]"
@@ -107,23 +96,16 @@ module _ (s : State) (p i : ℕ) where
       neither false b z = (refl, z)
 
       found : (q : ℕ) × (q < s size) × (fits s p (s (fifo p i)) q ≡ false)
-          → Waits (s size) (messages s) (process s p) (s (fifo p i))
+          → Waits (s size) (messages s) (s (group p)) (λ q. s (delivered p q)) (s (fifo p i))
       found (q, h, z) =
           let d = neither (eqb q (s (sender x))) (leb (s (stamp x (s (group p)) q)) (s (delivered p q))) z in
           waits q h (eqb-false q (s (sender x)) (d .0))
           (leb-false (s (stamp x (s (group p)) q)) (s (delivered p q)) (d .1))
 
-      rest : (b : Bool) → outside-causal s p (s (fifo p i)) ≡ b
-          → (¬ In (s (causal-length p)) (λ j. s (causal p j)) (s (fifo p i)))
-          → both b (every (s size) (fits s p (s (fifo p i)))) ≡ false
-          → every (s size) (fits s p (s (fifo p i))) ≡ false
-      rest true q a z = z
-      rest false q a z = absurd (a (absent-in (s (causal-length p)) x (λ j. s (causal p j)) q))
-
       go : Dec (In (s (causal-length p)) (λ j. s (causal p j)) (s (fifo p i)))
           → Stuck (s size) (messages s) (process s p) (s (fifo p i))
       go (yes a) = inl a
-      go (no a) = inr (found (every-false (s size) (fits s p x) (rest (outside-causal s p x) refl a e)))
+      go (no a) = inr (found (every-false (s size) (fits s p x) (simp (out-absent a) at e)))
 
 -- a message that is ready: held, outside the FIFO log, in turn, marked
 pub record Ready (s : State) (p m : ℕ) : Type 0 where
@@ -136,21 +118,17 @@ pub record Ready (s : State) (p m : ℕ) : Type 0 where
 pub ready-facts : (s : State) (p m : ℕ) → ready s p m ≡ true → Ready s p m
 unfolding ready
 ready-facts s p m e =
-    go (eqb (s (held p m)) 1) (outside-fifo s p m) (in-turn s p m) (every (s size) (marked s p m))
-    refl refl refl refl e
-  where
-    go : (a b c d : Bool) → eqb (s (held p m)) 1 ≡ a → outside-fifo s p m ≡ b → in-turn s p m ≡ c
-        → every (s size) (marked s p m) ≡ d → (a && b && c && d) ≡ true → Ready s p m
-    go true true true true ea eb ec ed z = record {
-      has = eqb-true (s (held p m)) 1 ea;
-      outside = absent-out (s (fifo-length p)) m (λ j. s (fifo p j)) eb;
-      turn = eqb-true (s (number m (s (group p)))) (s (next p (s (sender m)))) ec;
-      marks = ed;
+    let has : Bool = eqb (s (held p m)) 1 in
+    let new : Bool = outside-fifo s p m in
+    let three = both-l (has && new && in-turn s p m) (every (s size) (marked s p m)) e in
+    let two = both-l (has && new) (in-turn s p m) three in
+    record {
+      has = eqb-true (s (held p m)) 1 (both-l has new two);
+      outside = absent-out (s (fifo-length p)) m (λ j. s (fifo p j)) (both-r has new two);
+      turn = eqb-true (s (number m (s (group p)))) (s (next p (s (sender m))))
+          (both-r (has && new) (in-turn s p m) three);
+      marks = both-r (has && new && in-turn s p m) (every (s size) (marked s p m)) e;
     }
-    go true true true false ea eb ec ed z = clash {b = false} z refl
-    go true true false d ea eb ec ed z = clash {b = false} z refl
-    go true false c d ea eb ec ed z = clash {b = false} z refl
-    go false b c d ea eb ec ed z = clash {b = false} z refl
 
 -- ---- one causal delivery
 module _ (s : State) (es : List Event) (p i : ℕ) (hi : i < s (fifo-length p)) (d : Deliverable s p i)
@@ -162,18 +140,16 @@ module _ (s : State) (es : List Event) (p i : ℕ) (hi : i < s (fifo-length p)) 
     counting = counting-got (o .counting) p (s (fifo p i));
     each = at-or-off p
         (λ x. Means (messages s) (learn (got p (s (fifo p i))) (knowledge es)) x (process (causal-one s p i) x))
-        (subst (Means (messages s) (learn (got p (s (fifo p i))) (knowledge es)) p) (sym (causal-one-here s p i))
-        (record {
+        (rw (causal-one-here s p i) (record {
           counters = λ g q. counter-here (o .counting) p (s (fifo p i)) (mine .fifo-log .old i hi) g q
               (process s p .counter g q) (mine .counters g q);
           sequences = mine .sequences;
           fifo-log = mine .fifo-log;
           causal-log =
-              causal-log-more (o .counting) (mine .fifo-log) (mine .causal-log) i hi (d .outside) (d .free)
+              causal-log-more (process s p) (o .counting) (mine .fifo-log) (mine .causal-log) i hi (d .outside) (d .free)
               first;
         }))
-        (λ x n. subst (Means (messages s) (learn (got p (s (fifo p i))) (knowledge es)) x)
-        (sym (causal-one-there s p i x n)) (record {
+        (λ x n. rw (causal-one-there s p i x n) (record {
           counters = λ g q. counter-there (o .counting) p (s (fifo p i)) x g q (process s x .counter g q) n
               (o .each x .counters g q);
           sequences = o .each x .sequences;
@@ -193,28 +169,19 @@ unfolding raised-next appended put fifo-delivered
 meaning-fifo s es p m y hm tm o = record {
   counting = o .counting;
   each = at-or-off p (λ x. Means (messages s) (knowledge es) x (process (fifo-started s p m) x))
-      (subst (Means (messages s) (knowledge es) p) (sym (fifo-started-here s p m)) (record {
+      (rw (fifo-started-here s p m) (record {
         counters = o .each p .counters;
         sequences = o .each p .sequences;
         fifo-log = fifo-log-more (o .counting) (o .each p .fifo-log) m hm tm (y .outside) (y .turn);
-        causal-log = causal-log-fifo m (o .each p .causal-log);
+        causal-log = causal-log-fifo (process s p) m (o .each p .causal-log);
       }))
-      (λ x n. subst (Means (messages s) (knowledge es) x) (sym (fifo-started-there s p m x n)) (o .each x));
+      (λ x n. rw (fifo-started-there s p m x n) (o .each x));
 }
 
 -- ---- the events of a step, read off the causal log
 -- those of the log of p from place a on, given the process's record
-abbrev events : ℕ → ℕ → Process → List Event → List Event
+abbrev pub events : ℕ → ℕ → Process → List Event → List Event
 events p a r es = deliveries p a (r .causal-length - a) (r .causal) es
-
--- deliveries read off equal items
-deliveries-same : (p a n : ℕ) (f g : ℕ → ℕ) (es : List Event) → ((i : ℕ) → i < a + n → f i ≡ g i)
-    → deliveries p a n f es ≡ deliveries p a n g es
-unfolding deliveries
-deliveries-same p a zero f g es h = refl
-deliveries-same p a (suc n) f g es h =
-    ap₂ (λ (x : ℕ) (l : List Event). got p x ∷ l) (h (a + n) (omega arith))
-    (deliveries-same p a n f g es (λ i l. h i (omega arith)))
 
 -- one causal delivery adds its event
 grown-one : (p a i : ℕ) (s : State) (es : List Event) → a ≤ s (causal-length p)
@@ -231,7 +198,7 @@ grown-one p a i s es h =
     ∙ ap₂ (λ (x : ℕ) (l : List Event). got p x ∷ l)
     (ap (causal-delivered (messages s) (process s p) m .causal) f ∙ at-here log n m)
     (deliveries-same p a (n - a) (causal-delivered (messages s) (process s p) m .causal) log es
-    (λ j l. at-else log n m j (omega arith)))
+    (λ j l. at-else log n m (a + j) (omega arith)))
 
 -- ---- the causal deliveries, all
 -- the causal deliveries at p that are under way; a is where its causal log ended before the step
@@ -239,30 +206,29 @@ record Delivering (p a : ℕ) (es : List Event) (t : State) : Type 0 where
   pub meaning : MeaningOf t (grown p a t es)
   pub start : a ≤ t (causal-length p)
 
--- the causal log of p is one longer
-causal-long : (s : State) (p i : ℕ) → causal-one s p i (causal-length p) ≡ s (causal-length p) + 1
-unfolding causal-delivered
-causal-long s p i = ap (λ (r : Process). r .causal-length) (causal-one-here s p i)
-
 -- all of them keep what the state means
 delivering-all : (p a : ℕ) (es : List Event) (s : State) → Delivering p a es s
     → Delivering p a es (causal-all s p)
-unfolding causal-all
+unfolding causal-all causal-delivered
 delivering-all p a es s =
     loop-keeps (λ u. u (fifo-length p)) (λ u. deliverable-at u p) (λ u. causal-one u p) (Delivering p a es)
     (λ t i hi e first m. record {
-      meaning = subst (MeaningOf (causal-one t p i)) (sym (grown-one p a i t es (m .start)))
+      meaning = rw (grown-one p a i t es (m .start))
           (meaning-causal t (grown p a t es) p i hi (deliverable-facts t p i e)
           (λ j l. stuck-facts t p j (first j l)) (m .meaning));
-      start = omega (arith, causal-long t p i, m .start);
+      start = omega (arith, ap (λ (r : Process). r .causal-length) (causal-one-here t p i), m .start);
     }) (s (fifo-length p) - s (causal-length p)) s
 
 -- ---- a turn of the cascade
--- the cascade at p between two turns: it began in b, of a step that began with p's causal log ending at a
+-- between two turns of a step that began with p's causal log ending at a
+pub record Ordered (p a : ℕ) (es : List Event) (v : Scene) : Type 0 where
+  pub meaning : MeaningIn (events p a (v .own p) es) v
+  pub quiet : QuietIn v
+  pub start : a ≤ v .own p .causal-length
+
+-- the cascade at p, which began in b
 pub record Cascading (p a : ℕ) (es : List Event) (b t : State) : Type 0 where
-  pub meaning : MeaningOf t (grown p a t es)
-  pub quiet : QuietOf t
-  pub start : a ≤ t (causal-length p)
+  pub order : Ordered p a es (scene t)
   pub same : still t ≡ still b
   pub there : (r : ℕ) → p ≢ r → process t r ≡ process b r
 
@@ -274,33 +240,13 @@ module _ (p a : ℕ) (es : List Event) (b t : State) (h : HeldTo b p) (m : ℕ) 
   unfolding raised-next appended put
   begun = record {
     meaning =
-        meaning-fifo t (grown p a t es) p m y hm (held-to p b t (o .same) h m hm (y .has)) (o .meaning);
-    start = o .start;
+        meaning-fifo t (grown p a t es) p m y hm (held-to p b t (o .same) h m hm (y .has)) (o .order .meaning);
+    start = o .order .start;
   }
 
   -- and when they have ended
   middle : Delivering p a es (fifo-middle t p m)
   middle = delivering-all p a es (fifo-started t p m) begun
-
-  -- the middle leaves the ground
-  middle-ground : ground (fifo-middle t p m) ≡ ground t
-  middle-ground = ap (λ (v : Still). v .ground) (fifo-middle-still t p m)
-
-  -- so do the OKs
-  one-ground : ground (fifo-one t p m) ≡ ground (fifo-middle t p m)
-  one-ground = ap (λ (v : Still). v .ground) (fifo-one-still t p m) ∙ sym middle-ground
-
-  -- the messages are the same
-  one-messages : messages (fifo-one t p m) ≡ messages (fifo-middle t p m)
-  one-messages = ap (λ (v : Ground). v .messages) one-ground
-
-  -- and the processes
-  one-size : fifo-one t p m size ≡ fifo-middle t p m size
-  one-size = ap (λ (v : Ground). v .size) one-ground
-
-  -- its causal log grew by the same events, before the OKs and after
-  same-events : grown p a (fifo-one t p m) es ≡ grown p a (fifo-middle t p m) es
-  same-events = ap (λ (r : Process). events p a r es) (fifo-one-process t p m p)
 
   -- at p nothing is left to deliver
   quiet-here : Quiet (fifo-middle t p m size) (messages (fifo-middle t p m)) (process (fifo-middle t p m) p)
@@ -314,22 +260,16 @@ module _ (p a : ℕ) (es : List Event) (b t : State) (h : HeldTo b p) (m : ℕ) 
       at-or-off p
       (λ x. Quiet (fifo-middle t p m size) (messages (fifo-middle t p m)) (process (fifo-middle t p m) x))
       quiet-here
-      (λ x n. subst (λ (v : Ground). Quiet (v .size) (v .messages) (process (fifo-middle t p m) x))
-      (sym middle-ground)
-      (subst (Quiet (t size) (messages t)) (sym (sym (fifo-one-process t p m x) ∙ fifo-one-there t p m x n))
-      (o .quiet x))) r
+      (λ x n. subst₂ (λ (v : Still) (r : Process). Quiet (v .ground .size) (v .ground .messages) r)
+      (sym (fifo-middle-still t p m))
+      (sym (fifo-one-there t p m x n) ∙ ap (λ (v : Scene). v .own x) (fifo-one-scene t p m))
+      (o .order .quiet x)) r
 
   -- so a turn keeps it
   pub cascading-more : Cascading p a es b (fifo-one t p m)
   cascading-more = record {
-    meaning = subst (MeaningOf (fifo-one t p m)) (sym same-events)
-        (meaning-same (fifo-middle t p m) (fifo-one t p m) one-messages one-size (fifo-one-process t p m)
-        (grown p a (fifo-middle t p m) es) (middle .meaning));
-    quiet =
-        quiet-same (fifo-middle t p m) (fifo-one t p m) one-messages one-size (fifo-one-process t p m)
-        quiet-middle;
-    start =
-        omega (arith, ap (λ (r : Process). r .causal-length) (fifo-one-process t p m p), middle .start);
+    order = rw (fifo-one-scene t p m)
+        (record { meaning = middle .meaning; quiet = quiet-middle; start = middle .start });
     same = fifo-one-still t p m ∙ o .same;
     there = λ r n. fifo-one-there t p m r n ∙ o .there r n;
   }

@@ -3,7 +3,7 @@
 -- those in its past. A delivery takes the larger of two counts, and both count prefixes of q's messages, so
 -- that is the count of the union. A multicast counts one more, and only what the new message is. Assumes
 -- nothing.
-use mathlib.Core.Path.{_≡_, refl, sym, ap, ap₂, _∙_, subst}
+use mathlib.Core.Path.{_≡_, refl, sym, ap, ap₂, _∙_}
 use mathlib.Core.Bool.{Bool, true, false}
 use mathlib.Core.Logic.{_⊎_, inl, inr, _≢_}
 use Prim.Native.Nat.{ℕ, suc, _+_, _≤_, _<_, max}
@@ -34,6 +34,12 @@ of w q g x e = eqb-true (w .sender x) q (both-l (eqb (w .sender x) q) (bit (w .m
 -- it is to g
 pub to : (w : Messages) (q g x : ℕ) → of-to w q g x ≡ true → To w g x
 to w q g x e = both-r (eqb (w .sender x) q) (bit (w .mask x) g) e
+
+-- a test that passes where another does adds nothing to it
+pub both-less : (a b : Bool) → (b ≡ true → a ≡ true) → both a b ≡ b
+both-less true b h = refl
+both-less false true h = h refl
+both-less false false h = refl
 
 -- how many of q's messages to g a set has, and how many there are
 abbrev pub counted : Messages → (ℕ → Bool) → ℕ → ℕ → ℕ
@@ -110,17 +116,8 @@ module _ {n : ℕ} {w : Messages} {k : Knowledge} (c : Counting n w k) where
   pub own-all : (p g : ℕ) → counted w (k .past p) p g ≡ all-of w p g
   own-all p g =
       tally-cong (w .total) (λ x. both (k .past p x) (of-to w p g x)) (of-to w p g)
-      (λ x h. mine x h (of-to w p g x) refl)
-    where
-      mine : (x : ℕ) → x < w .total → (b : Bool) → of-to w p g x ≡ b → both (k .past p x) b ≡ b
-      mine x h false e = go (k .past p x)
-        where
-          go : (b : Bool) → both b false ≡ false
-          go true = refl
-          go false = refl
-      mine x h true e =
-          both-i (k .past p x) true
-          (subst (λ (z : ℕ). k .past z x ≡ true) (of w p g x e) (c .closed .past-own x h)) refl
+      (λ x h. both-less (k .past p x) (of-to w p g x)
+      (λ e. rw (of w p g x e) at (c .closed .past-own x h)))
 
 -- ---- a delivery
 union : (a b d : Bool) → both (either b a) d ≡ either (both a d) (both b d)
@@ -258,18 +255,16 @@ module _ {n : ℕ} {w : Messages} {k : Knowledge} {p groups : ℕ} {w′ : Messa
 
   -- a set that has only old messages
   without-new : (f : ℕ → Bool) → ((x : ℕ) → f x ≡ true → x < w .total) → f (w .total) ≡ false
-  without-new f low = go (bool-cases (f (w .total)))
-    where
-      go : (f (w .total) ≡ true) ⊎ (f (w .total) ≡ false) → f (w .total) ≡ false
-      go (inl e) = absurd (omega (arith, low (w .total) e))
-      go (inr e) = e
+  without-new f low = elim (bool-cases (f (w .total))) [
+    | inl e ↦ absurd (omega (arith, low (w .total) e))
+    | inr e ↦ e
+  ]
 
   -- the counters on the messages are right after it
   pub counting-sent : p < n → Counting n w′ (learn (sent p (w .total)) k)
   counting-sent hp = record {
     closed =
-        subst (λ (t : ℕ). Closed t (w′ .sender) (learn (sent p (w .total)) k))
-        (sym (o .total ∙ add-one (w .total)))
+        rw (o .total ∙ add-one (w .total))
         (closed-sent p (c .closed) (w′ .sender) (o .old-sender) (o .new-sender));
     senders = old-or-new (λ m. w′ .sender m < n) (rw (o .new-sender) hp)
         (λ m l. rw (o .old-sender m l) (c .senders m l));
@@ -307,15 +302,12 @@ module _ {n : ℕ} {w : Messages} {k : Knowledge} {p groups : ℕ} {w′ : Messa
     where
       at-new : learn (sent p (w .total)) k .past r (w .total) ≡ eqb p r
       at-new =
-          rw (eqb-refl (w .total), without-new (k .past r) (λ x b. c .closed .past r .low x b)) (go (eqb p r))
+          rw (eqb-refl (w .total), without-new (k .past r) (λ x b. c .closed .past r .low x b)) (alone (eqb p r))
         where
-          go : (b : Bool) → either (both b true) false ≡ b
-          go true = refl
-          go false = refl
+          alone : (b : Bool) → either (both b true) false ≡ b
+          alone true = refl
+          alone false = refl
 
       at-old : (x : ℕ) → x < w .total → learn (sent p (w .total)) k .past r x ≡ k .past r x
-      at-old x h = rw (ne-eqb (w .total) x (omega arith)) (go (eqb p r))
-        where
-          go : (b : Bool) → either (both b false) (k .past r x) ≡ k .past r x
-          go true = refl
-          go false = refl
+      at-old x h =
+          rw (ne-eqb (w .total) x (omega arith), both-less (eqb p r) false (λ e. clash {b = false} e refl))

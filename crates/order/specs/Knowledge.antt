@@ -152,16 +152,28 @@ module _ {n : ℕ} {sender : ℕ → ℕ} {k : Knowledge} (p : ℕ) (c : Closed 
       mine x y a h s (no b) =
           let l : y < n = omega arith in
           either-r (eqb n y) (k .past p y)
-          (subst (λ (z : ℕ). k .past z y ≡ true) (sym (old y l) ∙ s ∙ ap sender′ (sym a) ∙ new)
-          (c .past-own y l))
+          (rw (sym (old y l) ∙ s ∙ ap sender′ (sym a) ∙ new) at (c .past-own y l))
 
   pub closed-sent : Closed (suc n) sender′ (learn (sent p n) k)
   closed-sent = record {
     past = λ q. pasts q (eqb p q) refl;
     before = λ m. befores m (eqb n m) refl;
-    before-low = λ m x e. lows m x e (ℕ-discrete n m);
-    before-self = λ m h. selves m h (ℕ-discrete n m);
-    past-own = λ m h. owns m h (ℕ-discrete n m);
+    before-low = λ m x e. elim (ℕ-discrete n m) [
+      | yes a ↦ omega arith
+      | no a ↦ omega (arith, c .before-low m x (sym (before-old k p n m x a) ∙ e))
+    ];
+    before-self = λ m h. elim (ℕ-discrete n m) [
+      | yes a ↦ before-new k p n m m a ∙ either-l (eqb n m) (k .past p m) (eq-eqb n m a)
+      | no a ↦ before-old k p n m m a ∙ c .before-self m (omega arith)
+    ];
+    past-own = λ m h. elim (ℕ-discrete n m) [
+      | yes a ↦ either-l (both (eqb p (sender′ m)) (eqb n m)) (k .past (sender′ m) m)
+          (both-i (eqb p (sender′ m)) (eqb n m) (eq-eqb p (sender′ m) (sym new ∙ ap sender′ a))
+          (eq-eqb n m a))
+      | no a ↦
+          let l : m < n = omega arith in
+          past-grows (sent p n) k (sender′ m) m (rw (old m l) (c .past-own m l))
+    ];
   }
     where
       pasts : (q : ℕ) (b : Bool) → eqb p q ≡ b
@@ -182,20 +194,3 @@ module _ {n : ℕ} {sender : ℕ → ℕ} {k : Knowledge} (p : ℕ) (c : Closed 
           (λ x. either (eqb n x) (k .past p x))) (eqb-true n m e) with-new
       befores m false e =
           still-closed (λ x z. omega (arith, c .before m .low x z, c .before-low m x z)) (c .before m)
-
-      lows : (m x : ℕ) → learn (sent p n) k .before m x ≡ true → Dec (n ≡ m) → m < suc n
-      lows m x e (yes a) = omega arith
-      lows m x e (no a) = omega (arith, c .before-low m x (sym (before-old k p n m x a) ∙ e))
-
-      selves : (m : ℕ) → m < suc n → Dec (n ≡ m) → learn (sent p n) k .before m m ≡ true
-      selves m h (yes a) = before-new k p n m m a ∙ either-l (eqb n m) (k .past p m) (eq-eqb n m a)
-      selves m h (no a) = before-old k p n m m a ∙ c .before-self m (omega arith)
-
-      owns : (m : ℕ) → m < suc n → Dec (n ≡ m) → learn (sent p n) k .past (sender′ m) m ≡ true
-      owns m h (yes a) =
-          either-l (both (eqb p (sender′ m)) (eqb n m)) (k .past (sender′ m) m)
-          (both-i (eqb p (sender′ m)) (eqb n m) (eq-eqb p (sender′ m) (sym new ∙ ap sender′ a)) (eq-eqb n m a))
-      owns m h (no a) =
-          let l : m < n = omega arith in
-          past-grows (sent p n) k (sender′ m) m
-          (subst (λ (z : ℕ). k .past z m ≡ true) (sym (old m l)) (c .past-own m l))

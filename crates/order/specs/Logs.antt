@@ -9,9 +9,8 @@ use Prim.Native.Nat.{ℕ, _+_, _≤_, _<_}
 use native.Mathlib.Omega.{arith}
 use native.Mathlib.Decide.{ℕ-discrete}
 use borrow.Author.Tests.{ne-eqb}
-use Rattle.base.specs.Tests.{le-or-lt, pick-yes, pick-no, eqb-refl}
+use Rattle.base.specs.Tests.{le-or-lt, pick-yes, pick-no, eqb-refl, at-or-off}
 use Rattle.base.specs.Count.{In, in-at, in-wider}
-use Rattle.base.specs.Bits.{bit}
 use Rattle.world.specs.History.{sent}
 use Rattle.effects.specs.Views.{Messages, Process}
 use Rattle.effects.specs.Cascade.{at-place, fifo-delivered, causal-delivered}
@@ -30,18 +29,17 @@ module _ (n : ℕ) (log : ℕ → ℕ) (m : ℕ) where
   -- an item is an old one, or the new one
   pub item-cases : (i : ℕ) → i < n + 1
       → ((i < n) × (at-place log n m i ≡ log i)) ⊎ ((i ≡ n) × (at-place log n m i ≡ m))
-  item-cases i h = go (ℕ-discrete n i)
-    where
-      go : Dec (n ≡ i) → ((i < n) × (at-place log n m i ≡ log i)) ⊎ ((i ≡ n) × (at-place log n m i ≡ m))
-      go (yes e) = inr (sym e, ap (at-place log n m) (sym e) ∙ at-here log n m)
-      go (no e) = inl (omega arith, at-else log n m i e)
+  item-cases i h = elim (ℕ-discrete n i) [
+    | yes e ↦ inr (sym e, ap (at-place log n m) (sym e) ∙ at-here log n m)
+    | no e ↦ inl (omega arith, at-else log n m i e)
+  ]
 
   -- each item has what the old ones and m have
   pub every-item : (P : ℕ → Type 0) → ((i : ℕ) → i < n → P (log i)) → P m → (i : ℕ) → i < n + 1
       → P (at-place log n m i)
   every-item P old new i h = elim (item-cases i h) [
-    | inl a ↦ subst P (sym (a .1)) (old i (a .0))
-    | inr a ↦ subst P (sym (a .1)) new
+    | inl a ↦ rw (a .1) (old i (a .0))
+    | inr a ↦ rw (a .1) new
   ]
 
   -- an old item stands where it stood
@@ -81,16 +79,13 @@ module _ {s : ℕ} {e : ℕ} {w : Messages} {k : Knowledge} {g n : ℕ} {log bou
     (earlier : (x : ℕ) → x < m → w .sender x ≡ w .sender m → To w g x → In n log x) where
   -- the bound rises: m was above it
   rise : (q : ℕ) → bound q ≤ at-place bound (w .sender m) (e + rank w g m) q
-  rise q = go (ℕ-discrete (w .sender m) q) (le-or-lt (e + rank w g m) (bound (w .sender m)))
-    where
-      go : Dec (w .sender m ≡ q)
-          → (e + rank w g m ≤ bound (w .sender m)) ⊎ (bound (w .sender m) < e + rank w g m)
-          → bound q ≤ at-place bound (w .sender m) (e + rank w g m) q
-      go (no d) z = omega (arith, at-else bound (w .sender m) (e + rank w g m) q d)
-      go (yes d) (inl z) = absurd (out (o .below-in m hm tm z))
-      go (yes d) (inr z) =
-          subst (λ (x : ℕ). bound x ≤ at-place bound (w .sender m) (e + rank w g m) x) d
-          (omega (arith, at-here bound (w .sender m) (e + rank w g m)))
+  rise =
+      at-or-off (w .sender m) (λ x. bound x ≤ at-place bound (w .sender m) (e + rank w g m) x)
+      (elim (le-or-lt (e + rank w g m) (bound (w .sender m))) [
+        | inl z ↦ absurd (out (o .below-in m hm tm z))
+        | inr z ↦ omega (arith, at-here bound (w .sender m) (e + rank w g m))
+      ])
+      (λ q d. omega (arith, at-else bound (w .sender m) (e + rank w g m) q d))
 
   -- the longer log is a prefix up to the raised bound
   pub prefix-more : Prefix e w g (n + 1) (at-place log n m) (at-place bound (w .sender m) (e + rank w g m))
@@ -101,7 +96,10 @@ module _ {s : ℕ} {e : ℕ} {w : Messages} {k : Knowledge} {g n : ℕ} {log bou
         (omega (arith, at-here bound (w .sender m) (e + rank w g m)));
     below-in =
         λ x h t l. inside x h t l (ℕ-discrete (w .sender m) (w .sender x)) (ℕ-discrete m x) (le-or-lt m x);
-    most = λ q. mosts q (ℕ-discrete (w .sender m) q);
+    most = at-or-off (w .sender m)
+        (λ x. at-place bound (w .sender m) (e + rank w g m) x ≤ e + all-of w x g)
+        (omega (arith, at-here bound (w .sender m) (e + rank w g m), stamp-most c m g (w .sender m) hm))
+        (λ q d. omega (arith, at-else bound (w .sender m) (e + rank w g m) q d, o .most q));
   }
     where
       inside : (x : ℕ) → x < w .total → To w g x
@@ -120,13 +118,6 @@ module _ {s : ℕ} {e : ℕ} {w : Messages} {k : Knowledge} {g n : ℕ} {log bou
           let up = stamp-lt c x m g h (omega arith) d t in
           absurd (omega (arith, ap (λ (q : ℕ). w .stamp m g q) d))
 
-      mosts : (q : ℕ) → Dec (w .sender m ≡ q)
-          → at-place bound (w .sender m) (e + rank w g m) q ≤ e + all-of w q g
-      mosts q (no d) = omega (arith, at-else bound (w .sender m) (e + rank w g m) q d, o .most q)
-      mosts q (yes d) =
-          subst (λ (x : ℕ). at-place bound (w .sender m) (e + rank w g m) x ≤ e + all-of w x g) d
-          (omega (arith, at-here bound (w .sender m) (e + rank w g m), stamp-most c m g (w .sender m) hm))
-
 -- a multicast: the new message is above every bound
 module _ {s : ℕ} {w : Messages} {k : Knowledge} {p groups : ℕ} {w′ : Messages} (c : Counting s w k)
     (x : OneMore w k p groups w′) (g : ℕ) where
@@ -135,7 +126,7 @@ module _ {s : ℕ} {w : Messages} {k : Knowledge} {p groups : ℕ} {w′ : Messa
 
   -- an old message is to the same groups
   to-old : (m : ℕ) → m < w .total → To w′ g m → To w g m
-  to-old m h t = subst (λ (v : ℕ). bit v g ≡ true) (x .old-mask m h) t
+  to-old m h t = rw (x .old-mask m h) at t
 
   -- every log stays a prefix
   pub prefix-sent : {e n : ℕ} {log bound : ℕ → ℕ} → ((i : ℕ) → i < n → log i < w .total)
@@ -148,7 +139,7 @@ module _ {s : ℕ} {w : Messages} {k : Knowledge} {p groups : ℕ} {w′ : Messa
         (λ t l. absurd (omega (
           arith,
           o .most p,
-          new-above c x g (subst (λ (v : ℕ). bit v g ≡ true) (x .new-mask) t),
+          new-above c x g (rw (x .new-mask) at t),
           ap bound (x .new-sender),
           ap (w′ .stamp (w .total) g) (x .new-sender),
         )))
@@ -193,8 +184,8 @@ module _ {s : ℕ} {w : Messages} {k : Knowledge} {g n : ℕ} {log next : ℕ �
     order = λ i x h l e t. elim (item-cases n log m i h) [
       | inl a ↦ in-older n log m i (omega (arith, a .0))
           (o .order i x (a .0) (omega (arith, a .1)) (e ∙ ap (w .sender) (a .1)) t)
-      | inr a ↦ subst (λ (z : ℕ). In z (at-place log n m) x) (sym (a .0))
-          (in-older n log m n (omega arith) (earlier x (omega (arith, a .1)) (e ∙ ap (w .sender) (a .1)) t))
+      | inr a ↦ rw (a .0) (in-older n log m n (omega arith)
+          (earlier x (omega (arith, a .1)) (e ∙ ap (w .sender) (a .1)) t))
     ];
     prefix =
         subst (λ (v : ℕ). Prefix 1 w g (n + 1) (at-place log n m) (at-place next (w .sender m) v))
@@ -202,21 +193,25 @@ module _ {s : ℕ} {w : Messages} {k : Knowledge} {g n : ℕ} {log next : ℕ �
         (prefix-more c (o .prefix) m hm tm out earlier);
   }
 
--- ---- the causal log
-pub record CausalLog (w : Messages) (before : ℕ → ℕ → Bool) (r : Process) : Type 0 where
-  pub in-fifo : (i : ℕ) → i < r .causal-length → In (r .fifo-length) (r .fifo) (r .causal i)
-  pub once : (i j : ℕ) → i < j → j < r .causal-length → r .causal i ≢ r .causal j
+-- ---- the causal log, beside the FIFO log
+pub record CausalLog (w : Messages) (before : ℕ → ℕ → Bool) (g k : ℕ) (fifo : ℕ → ℕ) (n : ℕ) (log del : ℕ → ℕ)
+    : Type 0 where
+  pub in-fifo : (i : ℕ) → i < n → In k fifo (log i)
+  pub once : (i j : ℕ) → i < j → j < n → log i ≢ log j
   -- what is before a message, and to the group, stands ahead of it
-  pub order : (i x : ℕ) → i < r .causal-length → before (r .causal i) x ≡ true → x ≢ r .causal i
-      → To w (r .group) x
-      → In i (r .causal) x
-  pub prefix : Prefix 0 w (r .group) (r .causal-length) (r .causal) (r .delivered)
+  pub order : (i x : ℕ) → i < n → before (log i) x ≡ true → x ≢ log i → To w g x → In i log x
+  pub prefix : Prefix 0 w g n log del
+
+-- of a process
+abbrev pub CausalLogOf : Messages → (ℕ → ℕ → Bool) → Process → Type 0
+CausalLogOf w before r =
+    CausalLog w before (r .group) (r .fifo-length) (r .fifo) (r .causal-length) (r .causal) (r .delivered)
 
 -- a FIFO delivery does not concern it
-pub causal-log-fifo : {w : Messages} {before : ℕ → ℕ → Bool} {r : Process} (m : ℕ) → CausalLog w before r
-    → CausalLog w before (fifo-delivered w r m)
+pub causal-log-fifo : {w : Messages} {before : ℕ → ℕ → Bool} (r : Process) (m : ℕ) → CausalLogOf w before r
+    → CausalLogOf w before (fifo-delivered w r m)
 unfolding fifo-delivered
-causal-log-fifo {w} {before} {r} m o = record {
+causal-log-fifo r m o = record {
   in-fifo = λ i h. in-longer (r .fifo-length) (r .fifo) m (o .in-fifo i h);
   once = o .once;
   order = o .order;
@@ -224,12 +219,12 @@ causal-log-fifo {w} {before} {r} m o = record {
 }
 
 -- m of the FIFO log is outside the causal log, and waits for a message of another sender q
-pub data Waits (n : ℕ) (w : Messages) (r : Process) (m : ℕ) : Type 0 where
-  waits : (q : ℕ) → q < n → q ≢ w .sender m → r .delivered q < w .stamp m (r .group) q → Waits n w r m
+pub data Waits (n : ℕ) (w : Messages) (g : ℕ) (del : ℕ → ℕ) (m : ℕ) : Type 0 where
+  waits : (q : ℕ) → q < n → q ≢ w .sender m → del q < w .stamp m g q → Waits n w g del m
 
 -- m is in the causal log, or waits
 abbrev pub Stuck : ℕ → Messages → Process → ℕ → Type 0
-Stuck n w r m = In (r .causal-length) (r .causal) m ⊎ Waits n w r m
+Stuck n w r m = In (r .causal-length) (r .causal) m ⊎ Waits n w (r .group) (r .delivered) m
 
 -- nothing is left to deliver causally
 abbrev pub Quiet : ℕ → Messages → Process → Type 0
@@ -238,8 +233,8 @@ Quiet n w r = (i : ℕ) → i < r .fifo-length → Stuck n w r (r .fifo i)
 -- The causal delivery of item i of the FIFO log, the earliest that can be delivered. All that is before it,
 -- and to the group, is in the causal log already: of another sender, by del; of the same one, since it stands
 -- earlier in the FIFO log and could be delivered too. This is the only use of "earliest".
-module _ {n : ℕ} {w : Messages} {k : Knowledge} {r : Process} (c : Counting n w k) (f : FifoLogOf w r)
-    (o : CausalLog w (k .before) r) (i : ℕ) (hi : i < r .fifo-length)
+module _ {n : ℕ} {w : Messages} {k : Knowledge} (r : Process) (c : Counting n w k) (f : FifoLogOf w r)
+    (o : CausalLogOf w (k .before) r) (i : ℕ) (hi : i < r .fifo-length)
     (out : ¬ In (r .causal-length) (r .causal) (r .fifo i))
     (free : (q : ℕ) → q < n → q ≢ w .sender (r .fifo i) → w .stamp (r .fifo i) (r .group) q ≤ r .delivered q)
     (first : (j : ℕ) → j < i → Stuck n w r (r .fifo j)) where
@@ -253,7 +248,7 @@ module _ {n : ℕ} {w : Messages} {k : Knowledge} {r : Process} (c : Counting n 
   same-in x l e t = go (f .order i x hi l e t)
     where
       stuck : (j : ℕ) → r .fifo j ≡ x → Stuck n w r (r .fifo j) → In (r .causal-length) (r .causal) x
-      stuck j d (inl a) = subst (In (r .causal-length) (r .causal)) d a
+      stuck j d (inl a) = rw d at a
       stuck j d (inr (waits q hq ne lt)) =
           let b = sender-before c (r .fifo i) x (f .old i hi) (omega arith) e in
           absurd (omega (
@@ -269,25 +264,20 @@ module _ {n : ℕ} {w : Messages} {k : Knowledge} {r : Process} (c : Counting n 
   -- all that is before it is
   before-in : (x : ℕ) → k .before (r .fifo i) x ≡ true → x ≢ r .fifo i → To w (r .group) x
       → In (r .causal-length) (r .causal) x
-  before-in x b ne t = go (ℕ-discrete (w .sender x) (w .sender (r .fifo i)))
-    where
-      lx : x < r .fifo i
-      lx = omega (arith, c .closed .before (r .fifo i) .low x b)
-
-      hx : x < w .total
-      hx = omega (arith, lx, f .old i hi)
-
-      go : Dec (w .sender x ≡ w .sender (r .fifo i)) → In (r .causal-length) (r .causal) x
-      go (yes e) = same-in x lx e t
-      go (no e) =
-          o .prefix .below-in x hx t (omega (
-            arith,
-            stamp-le c (r .fifo i) x (r .group) (w .sender x) b,
-            free (w .sender x) (c .senders x hx) e,
-          ))
+  before-in x b ne t =
+      let lx : x < r .fifo i = omega (arith, c .closed .before (r .fifo i) .low x b) in
+      let hx : x < w .total = omega (arith, f .old i hi) in
+      elim (ℕ-discrete (w .sender x) (w .sender (r .fifo i))) [
+        | yes e ↦ same-in x lx e t
+        | no e ↦ o .prefix .below-in x hx t (omega (
+          arith,
+          stamp-le c (r .fifo i) x (r .group) (w .sender x) b,
+          free (w .sender x) (c .senders x hx) e,
+        ))
+      ]
 
   -- the log with it is a causal log again
-  pub causal-log-more : CausalLog w (k .before) (causal-delivered w r (r .fifo i))
+  pub causal-log-more : CausalLogOf w (k .before) (causal-delivered w r (r .fifo i))
   unfolding causal-delivered
   causal-log-more = record {
     in-fifo =
@@ -296,11 +286,10 @@ module _ {n : ℕ} {w : Messages} {k : Knowledge} {r : Process} (c : Counting n 
     once = once-longer (r .causal-length) (r .causal) (r .fifo i) (o .once) out;
     order = λ j x h b ne t. elim (item-cases (r .causal-length) (r .causal) (r .fifo i) j h) [
       | inl a ↦ in-older (r .causal-length) (r .causal) (r .fifo i) j (omega (arith, a .0))
-          (o .order j x (a .0) (subst (λ (z : ℕ). k .before z x ≡ true) (a .1) b) (λ e. ne (e ∙ sym (a .1)))
+          (o .order j x (a .0) (rw (a .1) at b) (λ e. ne (e ∙ sym (a .1)))
           t)
-      | inr a ↦ subst (λ (z : ℕ). In z (at-place (r .causal) (r .causal-length) (r .fifo i)) x) (sym (a .0))
-          (in-older (r .causal-length) (r .causal) (r .fifo i) (r .causal-length) (omega arith)
-          (before-in x (subst (λ (z : ℕ). k .before z x ≡ true) (a .1) b) (λ e. ne (e ∙ sym (a .1))) t))
+      | inr a ↦ rw (a .0) (in-older (r .causal-length) (r .causal) (r .fifo i) (r .causal-length) (omega arith)
+          (before-in x (rw (a .1) at b) (λ e. ne (e ∙ sym (a .1))) t))
     ];
     prefix =
         subst
@@ -311,20 +300,6 @@ module _ {n : ℕ} {w : Messages} {k : Knowledge} {r : Process} (c : Counting n 
   }
 
 -- ---- a multicast concerns no log
--- r with other counters and sequence counts, which the logs do not look at
-abbrev pub with-counts : Process → (ℕ → ℕ → ℕ) → (ℕ → ℕ) → Process
-with-counts r counter sequence = record {
-  group = r .group;
-  fifo-length = r .fifo-length;
-  fifo = r .fifo;
-  causal-length = r .causal-length;
-  causal = r .causal;
-  next = r .next;
-  delivered = r .delivered;
-  counter = counter;
-  sequence = sequence;
-}
-
 module _ {s : ℕ} {w : Messages} {k : Knowledge} {p groups : ℕ} {w′ : Messages} (c : Counting s w k)
     (x : OneMore w k p groups w′) (r : Process) (f : FifoLogOf w r) where
   pub fifo-log-sent : FifoLogOf w′ r
@@ -341,13 +316,12 @@ module _ {s : ℕ} {w : Messages} {k : Knowledge} {p groups : ℕ} {w′ : Messa
   }
 
   -- what is in the causal log is an old message
-  causal-old : CausalLog w (k .before) r → (i : ℕ) → i < r .causal-length → r .causal i < w .total
-  causal-old o i h = elim (o .in-fifo i h) [ in-at j hj e ↦ subst (λ (z : ℕ). z < w .total) e (f .old j hj) ]
+  causal-old : CausalLogOf w (k .before) r → (i : ℕ) → i < r .causal-length → r .causal i < w .total
+  causal-old o i h = elim (o .in-fifo i h) [ in-at j hj e ↦ rw e at (f .old j hj) ]
 
   -- nor a causal log
-  pub causal-log-sent : (cs : ℕ → ℕ → ℕ) (bs : ℕ → ℕ) → CausalLog w (k .before) r
-      → CausalLog w′ (learn (sent p (w .total)) k .before) (with-counts r cs bs)
-  causal-log-sent cs bs o = record {
+  pub causal-log-sent : CausalLogOf w (k .before) r → CausalLogOf w′ (learn (sent p (w .total)) k .before) r
+  causal-log-sent o = record {
     in-fifo = o .in-fifo;
     once = o .once;
     order = λ i y h b ne t.
@@ -359,13 +333,13 @@ module _ {s : ℕ} {w : Messages} {k : Knowledge} {p groups : ℕ} {w′ : Messa
   }
 
   -- and what waited still waits
-  pub quiet-sent : (cs : ℕ → ℕ → ℕ) (bs : ℕ → ℕ) → Quiet s w r → Quiet s w′ (with-counts r cs bs)
-  quiet-sent cs bs z i h = go (z i h)
+  pub quiet-sent : Quiet s w r → Quiet s w′ r
+  quiet-sent z i h = go (z i h)
     where
       hi : r .fifo i < w .total
       hi = f .old i h
 
-      go : Stuck s w r (r .fifo i) → Stuck s w′ (with-counts r cs bs) (r .fifo i)
+      go : Stuck s w r (r .fifo i) → Stuck s w′ r (r .fifo i)
       go (inl a) = inl a
       go (inr (waits q hq ne lt)) =
           inr (waits q hq (λ e. ne (e ∙ x .old-sender (r .fifo i) hi))

@@ -2,14 +2,14 @@
 -- sender's after they were raised (OneMore), and which no process has delivered. Assumes nothing.
 use mathlib.Core.Path.{_≡_, refl, sym, ap, _∙_}
 use mathlib.Core.Bool.{Bool, true, false}
-use mathlib.Core.List.{List, [], _∷_}
+use mathlib.Core.List.{List, _∷_}
 use mathlib.Core.Logic.{_≢_}
 use Prim.Native.Nat.{ℕ, suc, _+_, _-_, _<_}
 use native.Mathlib.Omega.{arith}
 use native.Mathlib.Numerals.{add-one}
 use lib.Dec.{eqb}
 use borrow.Author.Tests.{ne-eqb}
-use Rattle.base.specs.Tests.{pick, pick-yes, pick-no, both, eqb-refl}
+use Rattle.base.specs.Tests.{pick, pick-no, both, eqb-refl}
 use Rattle.base.specs.Bits.{bit}
 use Rattle.world.specs.World.{size, count, counter, sequence, causal-length, sender, mask, stamp, number, State, put}
 use Rattle.world.specs.Layout.{put-same, put-other}
@@ -54,23 +54,11 @@ module _ (s : State) (es : List Event) (p groups : ℕ) (o : MeaningOf s es) whe
 
       stamp-is : (g q : ℕ) → multicast s p groups (stamp (s count) g q)
           ≡ pick (both (eqb p q) (bit groups g)) (s (counter p g q) + 1) (s (counter p g q))
-      stamp-is g q =
-          pick-yes
-          (pick (both (both (eqb p p) (eqb p q)) (bit groups g)) (s (counter p g q) + 1)
-          (s (counter p g q)))
-          (s (stamp (s count) g q)) (eqb-refl (s count))
-          ∙ ap
-          (λ (b : Bool). pick (both (both b (eqb p q)) (bit groups g)) (s (counter p g q) + 1)
-          (s (counter p g q))) (eqb-refl p)
+      stamp-is g q = rw (eqb-refl (s count), eqb-refl p)
 
       number-is : (g : ℕ) → multicast s p groups (number (s count) g)
           ≡ pick (bit groups g) (s (sequence p g) + 1) (s (sequence p g))
-      number-is g =
-          pick-yes (pick (both (eqb p p) (bit groups g)) (s (sequence p g) + 1) (s (sequence p g)))
-          (s (number (s count) g))
-          (eqb-refl (s count))
-          ∙ ap (λ (b : Bool). pick (both b (bit groups g)) (s (sequence p g) + 1) (s (sequence p g)))
-          (eqb-refl p)
+      number-is g = rw (eqb-refl (s count), eqb-refl p)
 
   -- tests grouped otherwise
   grouped : (a b c : Bool) → both (both a b) c ≡ both a (both b c)
@@ -94,17 +82,14 @@ module _ (s : State) (es : List Event) (p groups : ℕ) (o : MeaningOf s es) whe
           ∙ sym (all-more (o .counting) one-more r g);
       fifo-log = fifo-log-sent (o .counting) one-more (own s r) (o .each r .fifo-log);
       causal-log =
-          causal-log-sent (o .counting) one-more (own s r) (o .each r .fifo-log) (own (multicast s p groups) r .counter)
-          (own (multicast s p groups) r .sequence) (o .each r .causal-log);
+          causal-log-sent (o .counting) one-more (own s r) (o .each r .fifo-log) (o .each r .causal-log);
     };
   }
 
   -- and nothing is left to deliver
   pub quiet-multicast : QuietOf s → QuietOf (multicast s p groups)
   unfolding multicast posted numbered stamped raised put with-tables
-  quiet-multicast z r =
-      quiet-sent (o .counting) one-more (own s r) (o .each r .fifo-log) (own (multicast s p groups) r .counter)
-      (own (multicast s p groups) r .sequence) (z r)
+  quiet-multicast z r = quiet-sent (o .counting) one-more (own s r) (o .each r .fifo-log) (z r)
 
 -- no causal log grows
 pub multicast-logs : (s : State) (p groups r : ℕ) → multicast s p groups (causal-length r) ≡ s (causal-length r)

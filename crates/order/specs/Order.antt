@@ -5,7 +5,7 @@
 use mathlib.Core.Path.{_≡_, sym, ap, _∙_, subst}
 use mathlib.Core.Bool.{true}
 use mathlib.Core.List.{List}
-use mathlib.Core.Logic.{_⊎_, inl, inr, _≢_, _↔_}
+use mathlib.Core.Logic.{inl, inr, _≢_, _↔_}
 use Prim.Native.Nat.{ℕ, _+_, _≤_, _<_}
 use native.Mathlib.Omega.{arith}
 use native.Mathlib.Decide.{ℕ-discrete}
@@ -15,17 +15,17 @@ use Rattle.world.specs.World.{count, group, counter, sequence, next, delivered,
 use Rattle.world.specs.Machine.{addressed}
 use Rattle.world.specs.Setup.{setup-refusal}
 use Rattle.world.specs.History.{Event, sent, At, Before, Run, Item, on-states, run, started}
-use Rattle.effects.specs.Views.{Messages, messages, Process}
+use Rattle.effects.specs.Views.{Messages, messages, Process, process}
 use Rattle.order.specs.Knowledge.{Knowledge, knowledge}
-use Rattle.order.specs.Precedence.{Cast, cast-at, cast-there, precedes-before, before-precedes}
+use Rattle.order.specs.Precedence.{cast-at, cast-there, precedes-before, before-precedes}
 use Rattle.order.specs.Counters.{To, of-to, of, to, counted, all-of, Counting, sender-before}
-use Rattle.order.specs.Logs.{FifoLogOf, CausalLog, waits, Stuck, Quiet}
+use Rattle.order.specs.Logs.{FifoLogOf, CausalLogOf, waits, Stuck, Quiet}
 use Rattle.order.specs.Cascade.{Fifo, Causal, MeaningOf}
 use Rattle.order.specs.Runs.{Whole, whole-started, whole-run}
 
 -- ---- conclusion 1 from right to left, over the views
-module _ {n : ℕ} {w : Messages} {k : Knowledge} {r : Process} (c : Counting n w k) (f : FifoLogOf w r)
-    (o : CausalLog w (k .before) r) (quiet : Quiet n w r) where
+module _ {n : ℕ} {w : Messages} {k : Knowledge} (r : Process) (c : Counting n w k) (f : FifoLogOf w r)
+    (o : CausalLogOf w (k .before) r) (quiet : Quiet n w r) where
   -- all that is before m and to the group is in the FIFO log
   abbrev PastIn : ℕ → Type 0
   PastIn m = (x : ℕ) → k .before m x ≡ true → x ≢ m → To w (r .group) x → In (r .fifo-length) (r .fifo) x
@@ -94,11 +94,11 @@ module _ {n : ℕ} {w : Messages} {k : Knowledge} {r : Process} (c : Counting n 
               past y (c .closed .before m .chain x y b b′) (omega arith) t′)
 
           go : Stuck n w r (r .fifo i) → In (r .causal-length) (r .causal) m
-          go (inl a) = subst (In (r .causal-length) (r .causal)) e a
+          go (inl a) = rw e at a
           go (inr (waits q hq ne lt)) =
               absurd (omega (
                 arith,
-                no-wait m (subst (λ (y : ℕ). y < w .total) e (f .old i hi)) all q
+                no-wait m (rw e at (f .old i hi)) all q
                     (λ y. ne (y ∙ ap (w .sender) (sym e))),
                 ap (λ (y : ℕ). w .stamp y (r .group) q) e,
               ))
@@ -115,11 +115,11 @@ module _ {r : Run State} (w : Whole r) (p : ℕ) where
       × ((x : ℕ) → Before (r .seen) x m → addressed (r .now) x p ≡ true → Fifo (r .now) p x)
   causal-past m (in-at i h e) =
       let o = w .meaning .each p .causal-log in (
-        subst (Fifo (r .now) p) e (o .in-fifo i h),
+        rw e at (o .in-fifo i h),
         λ x b t. (let y = to-before x m b in
-            elim (o .order i x h (subst (λ (z : ℕ). knowledge (r .seen) .before z x ≡ true) (sym e) (y .0))
+            elim (o .order i x h (rw e (y .0))
             (λ d. y .1 (d ∙ e)) t) [
-              | in-at j l d ↦ subst (Fifo (r .now) p) d (o .in-fifo j (omega arith))
+              | in-at j l d ↦ rw d at (o .in-fifo j (omega arith))
             ]),
       )
 
@@ -128,7 +128,8 @@ module _ {r : Run State} (w : Whole r) (p : ℕ) where
       → ((x : ℕ) → Before (r .seen) x m → addressed (r .now) x p ≡ true → Fifo (r .now) p x)
       → Causal (r .now) p m
   past-causal m f all =
-      all-delivered (w .meaning .counting) (w .meaning .each p .fifo-log) (w .meaning .each p .causal-log) (w .quiet p) m f
+      let o = w .meaning .each p in
+      all-delivered (process (r .now) p) (w .meaning .counting) (o .fifo-log) (o .causal-log) (w .quiet p) m f
       (λ x b ne t. all x (before-precedes (r .seen) (r .now count) (w .formed) x m b ne) t)
 
   -- conclusion 2: no causal log holds a message twice
@@ -142,19 +143,18 @@ module _ {r : Run State} (w : Whole r) (p : ℕ) where
   causal-ordered i j hi hj b =
       let o = w .meaning .each p .causal-log in
       let y = to-before (r .now (causal p j)) (r .now (causal p i)) b in
-      go (o .order i (r .now (causal p j)) hi (y .0) (y .1) (to-p (o .in-fifo j hj)))
+      elim (o .order i (r .now (causal p j)) hi (y .0) (y .1) (to-p (o .in-fifo j hj))) [
+        | in-at l h e ↦ elim (ℕ-discrete l j) [
+          | yes q ↦ omega arith
+          | no q ↦ elim (le-or-lt l j) [
+            | inl v ↦ absurd (causal-once l j (omega arith) hj e)
+            | inr v ↦ absurd (causal-once j l v (omega arith) (sym e))
+          ]
+        ]
+      ]
     where
       to-p : Fifo (r .now) p (r .now (causal p j)) → addressed (r .now) (r .now (causal p j)) p ≡ true
-      to-p (in-at l h e) =
-          subst (λ (z : ℕ). addressed (r .now) z p ≡ true) e (w .meaning .each p .fifo-log .to-group l h)
-
-      go : In i (λ l. r .now (causal p l)) (r .now (causal p j)) → j < i
-      go (in-at l h e) = same-place (ℕ-discrete l j) (le-or-lt l j)
-        where
-          same-place : Dec (l ≡ j) → (l ≤ j) ⊎ (j < l) → j < i
-          same-place (yes q) v = omega arith
-          same-place (no q) (inl v) = absurd (causal-once l j (omega arith) hj e)
-          same-place (no q) (inr v) = absurd (causal-once j l v (omega arith) (sym e))
+      to-p (in-at l h e) = rw e at (w .meaning .each p .fifo-log .to-group l h)
 
   -- ---- the FIFO logs
   -- FIFO order: the earlier messages of the same sender to its group stand ahead in the FIFO log of p
@@ -174,11 +174,9 @@ pub data Multicast (es : List Event) (p m : ℕ) : Type 0 where
 -- every message was multicast by its sender
 pub was-multicast : {r : Run State} → Whole r → (m : ℕ) → m < r .now count
     → Multicast (r .seen) (r .now (sender m)) m
-was-multicast {r} w m h = go (cast-there (r .seen) (w .formed) m h)
-  where
-    go : Cast (r .seen) m → Multicast (r .seen) (r .now (sender m)) m
-    go (cast-at i q a) =
-        multicast-at i (subst (λ (z : ℕ). At (r .seen) i (sent z m)) (sym (w .senders i q m a)) a)
+was-multicast {r} w m h = elim (cast-there (r .seen) (w .formed) m h) [
+  | cast-at i q a ↦ multicast-at i (rw (w .senders i q m a) a)
+]
 
 -- ---- uniform integrity: a process delivers a message at most once, only one that was multicast, and only to
 -- an addressee
@@ -242,8 +240,7 @@ counter-meaning {r} w = record {
         → ((i : ℕ) → i < n
         → e + r .now (stamp (log i) g (r .now (sender (log i)))) ≤ bound (r .now (sender (log i))))
         → e + r .now (stamp m g (r .now (sender m))) ≤ bound (r .now (sender m))
-    below e bound g (in-at i l d) h =
-        subst (λ (x : ℕ). e + r .now (stamp x g (r .now (sender x))) ≤ bound (r .now (sender x))) d (h i l)
+    below e bound g (in-at i l d) h = rw d at (h i l)
 
 -- ---- for every setup record that is taken and every list of items
 pub reached : (setup : List ℕ) (items : List Item) → setup-refusal setup ≡ 0

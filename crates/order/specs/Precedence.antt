@@ -2,7 +2,7 @@
 -- when x is before m and is not m. What a process knew of right after an event only grows along precedence,
 -- and right after a multicast it is what is before the message; that is one half. The other half is by
 -- induction over the history: what is known came by a chain of events. Assumes nothing.
-use mathlib.Core.Path.{_≡_, refl, sym, ap, _∙_, subst}
+use mathlib.Core.Path.{_≡_, refl, sym, _∙_, subst}
 use mathlib.Core.Bool.{Bool, true, false}
 use mathlib.Core.List.{List, [], _∷_}
 use mathlib.Core.Logic.{_⊎_, inl, inr, _≢_}
@@ -24,15 +24,6 @@ Formed n (sent p m ∷ es) = (n ≡ suc m) × Formed m es
 Formed n (got p m ∷ es) = Formed n es
 
 -- ---- places of events
--- an event of a longer history is the newest, or an older one
-abbrev pub Newest : Event → List Event → ℕ → Event → Type 0
-Newest d es i e = (i ≡ length es) × (d ≡ e)
-
--- by how it was found
-pub at-cases : {d e : Event} {es : List Event} {i : ℕ} → At (d ∷ es) i e → Newest d es i e ⊎ At es i e
-at-cases (here h) = inl (h, refl)
-at-cases (there a) = inr a
-
 -- a place is below the length
 at-low : {es : List Event} {i : ℕ} {e : Event} → At es i e → i < length es
 at-low (here h) = omega arith
@@ -44,48 +35,29 @@ no-event a = not-suc-le-zero (at-low a)
 
 -- one event at a place
 at-one : {es : List Event} {i j : ℕ} {d e : Event} → i ≡ j → At es i d → At es j e → d ≡ e
-at-one {es = []} q a b = absurd (not-suc-le-zero (at-low a))
-at-one {es = x ∷ es} {i} {j} {d} {e} q a b = go (at-cases a) (at-cases b) (λ a′ b′. at-one {es = es} q a′ b′)
-  where
-    go : Newest x es i d ⊎ At es i d → Newest x es j e ⊎ At es j e → (At es i d → At es j e → d ≡ e) → d ≡ e
-    go (inl a) (inl b) ih = sym (a .1) ∙ b .1
-    go (inl a) (inr b) ih = absurd (omega (arith, at-low b, a .0))
-    go (inr a) (inl b) ih = absurd (omega (arith, at-low a, b .0))
-    go (inr a) (inr b) ih = ih a b
+at-one q (here h) (here k) = refl
+at-one q (here h) (there b) = absurd (omega (arith, at-low b))
+at-one q (there a) (here k) = absurd (omega (arith, at-low a))
+at-one q (there a) (there b) = at-one q a b
 
--- a delivery is no multicast
-not-sent : {p m q x : ℕ} {A : Type 0} → got p m ≡ sent q x → A
-not-sent e = let z : _≡_ {A = ℕ} 0 1 = cc in absurd (omega arith)
-
--- so a multicast is older than a delivery
+-- a multicast is older than a delivery
 pub old-cast : {p m i r x : ℕ} {es : List Event} → At (got p m ∷ es) i (sent r x) → At es i (sent r x)
-old-cast a = elim (at-cases a) [ inl b ↦ not-sent (b .1) | inr b ↦ b ]
+old-cast (there a) = a
 
 -- messages that were multicast are below n, and each is multicast at one place
 pub cast-low : (es : List Event) {n i p m : ℕ} → Formed n es → At es i (sent p m) → m < n
-cast-low [] f a = absurd (not-suc-le-zero (at-low a))
-cast-low (got r k ∷ es) f a = cast-low es f (old-cast a)
-cast-low (sent r k ∷ es) {n} {i} {p} {m} f a = go (at-cases a) (λ b. cast-low es (f .1) b)
-  where
-    go : Newest (sent r k) es i (sent p m) ⊎ At es i (sent p m) → (At es i (sent p m) → m < k) → m < n
-    go (inl b) ih = let e : k ≡ m = cc (b .1) in omega (arith, f .0)
-    go (inr b) ih = omega (arith, f .0, ih b)
+cast-low (got r k ∷ es) f (there a) = cast-low es f a
+cast-low (sent r k ∷ es) f (here h) = omega (arith, f .0)
+cast-low (sent r k ∷ es) f (there a) = omega (arith, f .0, cast-low es (f .1) a)
 
 -- a message is multicast at one place
 cast-once : (es : List Event) (n : ℕ) {i j p q m : ℕ} → Formed n es → At es i (sent p m) → At es j (sent q m)
     → i ≡ j
-cast-once [] n f a b = absurd (not-suc-le-zero (at-low a))
-cast-once (got r k ∷ es) n f a b = cast-once es n f (old-cast a) (old-cast b)
-cast-once (sent r k ∷ es) n {i} {j} {p} {q} {m} f a b =
-    go (at-cases a) (at-cases b) (λ a′ b′. cast-once es k (f .1) a′ b′)
-  where
-    go : Newest (sent r k) es i (sent p m) ⊎ At es i (sent p m)
-        → Newest (sent r k) es j (sent q m) ⊎ At es j (sent q m)
-        → (At es i (sent p m) → At es j (sent q m) → i ≡ j) → i ≡ j
-    go (inl x) (inl y) ih = omega arith
-    go (inl x) (inr y) ih = let e : k ≡ m = cc (x .1) in absurd (omega (arith, cast-low es (f .1) y))
-    go (inr x) (inl y) ih = let e : k ≡ m = cc (y .1) in absurd (omega (arith, cast-low es (f .1) x))
-    go (inr x) (inr y) ih = ih x y
+cast-once (got r k ∷ es) n f (there a) (there b) = cast-once es n f a b
+cast-once (sent r k ∷ es) n f (here h) (here l) = omega arith
+cast-once (sent r k ∷ es) n f (here h) (there b) = absurd (omega (arith, cast-low es (f .1) b))
+cast-once (sent r k ∷ es) n f (there a) (here l) = absurd (omega (arith, cast-low es (f .1) a))
+cast-once (sent r k ∷ es) n f (there a) (there b) = cast-once es k (f .1) a b
 
 -- every message below n was multicast, by some process
 pub data Cast (es : List Event) (m : ℕ) : Type 0 where
@@ -99,12 +71,10 @@ cast-up (cast-at i p a) = cast-at i p (there a)
 pub cast-there : (es : List Event) {n : ℕ} → Formed n es → (m : ℕ) → m < n → Cast es m
 cast-there [] f m h = absurd (omega (arith, f))
 cast-there (got r k ∷ es) f m h = cast-up (cast-there es f m h)
-cast-there (sent r k ∷ es) {n} f m h = go (ℕ-discrete k m) (λ l. cast-there es (f .1) m l)
-  where
-    go : Dec (k ≡ m) → (m < k → Cast es m) → Cast (sent r k ∷ es) m
-    go (yes e) ih =
-        cast-at (length es) r (subst (λ (z : ℕ). At (sent r k ∷ es) (length es) (sent r z)) e (here refl))
-    go (no d) ih = cast-up (ih (omega (arith, f .0)))
+cast-there (sent r k ∷ es) f m h = elim (ℕ-discrete k m) [
+  | yes e ↦ cast-at (length es) r (subst (λ (z : ℕ). At (sent r k ∷ es) (length es) (sent r z)) e (here refl))
+  | no d ↦ cast-up (cast-there es (f .1) m (omega (arith, f .0)))
+]
 
 -- ---- along precedence, what is known grows
 -- what its process knows of right after the event at place i
@@ -143,23 +113,15 @@ known-own {es = d ∷ es} {i} {p} {x} (there a) = at-older d es i x (at-low a) �
 known-before : (es : List Event) (n : ℕ) {i p m : ℕ} (x : ℕ) → Formed n es → At es i (sent p m)
     → known-at es i x ≡ true → knowledge es .before m x ≡ true
 unfolding knowledge
-known-before [] n x f a z = absurd (no-event a)
-known-before (got r k ∷ es) n {i} x f a z =
-    let b = old-cast a in
+known-before (got r k ∷ es) n {i} x f (there b) z =
     known-before es n x f b (sym (at-older (got r k) es i x (at-low b)) ∙ z)
-known-before (sent r k ∷ es) n {i} {p} {m} x f a z = go (at-cases a) (λ b y. known-before es k x (f .1) b y)
-  where
-    go : Newest (sent r k) es i (sent p m) ⊎ At es i (sent p m)
-        → (At es i (sent p m) → known-at es i x ≡ true → knowledge es .before m x ≡ true)
-        → learn (sent r k) (knowledge es) .before m x ≡ true
-    go (inl b) ih =
-        let e : k ≡ m = cc (b .1) in
-        let y = sym (at-newest (sent r k) es i x (b .0)) ∙ z in
-        before-new (knowledge es) r k m x e
-        ∙ (simp (eqb-refl r) at y)
-    go (inr b) ih =
-        let l = cast-low es (f .1) b in
-        before-old (knowledge es) r k m x (omega arith) ∙ ih b (sym (at-older (sent r k) es i x (at-low b)) ∙ z)
+known-before (sent r k ∷ es) n {i} x f (here h) z =
+    let y = sym (at-newest (sent r k) es i x h) ∙ z in
+    before-new (knowledge es) r k k x refl ∙ (simp (eqb-refl r) at y)
+known-before (sent r k ∷ es) n {i} {p} {m} x f (there b) z =
+    let l = cast-low es (f .1) b in
+    before-old (knowledge es) r k m x (omega arith)
+    ∙ known-before es k x (f .1) b (sym (at-older (sent r k) es i x (at-low b)) ∙ z)
 
 -- an event that precedes is older
 precedes-low : {es : List Event} {i j : ℕ} → Precedes es i j → i < j
@@ -171,48 +133,30 @@ precedes-low (chain a b) = omega (arith, precedes-low a, precedes-low b)
 known-same : (es : List Event) {i j : ℕ} {d e : Event} (x : ℕ) → i < j → At es i d → At es j e → who d ≡ who e
     → known-at es i x ≡ true → known-at es j x ≡ true
 unfolding knowledge
-known-same [] x l a b w z = absurd (no-event a)
-known-same (h ∷ es) {i} {j} {d} {e} x l a b w z =
-    go (at-cases a) (at-cases b) (λ a′ b′ y. known-same es x l a′ b′ w y)
-  where
-    go : Newest h es i d ⊎ At es i d → Newest h es j e ⊎ At es j e
-        → (At es i d → At es j e → known-at es i x ≡ true → known-at es j x ≡ true) → known-at (h ∷ es) j x ≡ true
-    go (inl a′) b′ ih = absurd (omega (arith, a′ .0, at-low b))
-    go (inr a′) (inl b′) ih =
-        let y = known-past x a′ (sym (at-older h es i x (at-low a′)) ∙ z) in
-        at-newest h es j x (b′ .0)
-        ∙ past-grows h (knowledge es) (who h) x
-        (subst (λ (q : ℕ). knowledge es .past q x ≡ true) (w ∙ ap who (sym (b′ .1))) y)
-    go (inr a′) (inr b′) ih =
-        at-older h es j x (at-low b′) ∙ ih a′ b′ (sym (at-older h es i x (at-low a′)) ∙ z)
+known-same (h ∷ es) x l (here q) (here k) w z = absurd (omega arith)
+known-same (h ∷ es) x l (here q) (there b) w z = absurd (omega (arith, at-low b))
+known-same (h ∷ es) {i} {j} x l (there a) (here k) w z =
+    at-newest h es j x k
+    ∙ past-grows h (knowledge es) (who h) x (rw w at (known-past x a (sym (at-older h es i x (at-low a)) ∙ z)))
+known-same (h ∷ es) {i} {j} x l (there a) (there b) w z =
+    at-older h es j x (at-low b) ∙ known-same es x l a b w (sym (at-older h es i x (at-low a)) ∙ z)
 
 -- a delivery knows what its message's multicast knew
 known-carried : (es : List Event) (n : ℕ) {i j p q m : ℕ} (x : ℕ) → Formed n es → i < j → At es i (sent p m)
     → At es j (got q m) → known-at es i x ≡ true → known-at es j x ≡ true
 unfolding knowledge
-known-carried [] n x f l a b z = absurd (no-event a)
-known-carried (sent r k ∷ es) n {i} {j} {p} {q} {m} x f l a b z =
-    let b′ : At es j (got q m) = elim (at-cases b) [ inl c ↦ not-sent (sym (c .1)) | inr c ↦ c ] in
-    let h = at-low b′ in
-    let a′ : At es i (sent p m) = elim (at-cases a) [ inl c ↦ absurd (omega (arith, c .0)) | inr c ↦ c ] in
-    at-older (sent r k) es j x h
-    ∙ known-carried es k x (f .1) l a′ b′ (sym (at-older (sent r k) es i x (at-low a′)) ∙ z)
-known-carried (got r k ∷ es) n {i} {j} {p} {q} {m} x f l a b z =
-    go (at-cases b) (λ b′ y. known-carried es n x f l (old-cast a) b′ y)
-  where
-    y : known-at es i x ≡ true
-    y = sym (at-older (got r k) es i x (at-low (old-cast a))) ∙ z
-
-    go : Newest (got r k) es j (got q m) ⊎ At es j (got q m)
-        → (At es j (got q m) → known-at es i x ≡ true → known-at es j x ≡ true)
-        → known-at (got r k ∷ es) j x ≡ true
-    go (inl c) ih =
-        let e : m ≡ k = cc (c .1) in
-        at-newest (got r k) es j x (c .0)
-        ∙ either-l (both (eqb r r) (knowledge es .before k x)) (knowledge es .past r x)
-        (both-i (eqb r r) (knowledge es .before k x) (eqb-refl r)
-        (subst (λ (v : ℕ). knowledge es .before v x ≡ true) e (known-before es n x f (old-cast a) y)))
-    go (inr c) ih = at-older (got r k) es j x (at-low c) ∙ ih c y
+known-carried (sent r k ∷ es) n x f l (here q) (there b) z = absurd (omega (arith, at-low b))
+known-carried (sent r k ∷ es) n {i} {j} x f l (there a) (there b) z =
+    at-older (sent r k) es j x (at-low b)
+    ∙ known-carried es k x (f .1) l a b (sym (at-older (sent r k) es i x (at-low a)) ∙ z)
+known-carried (got r k ∷ es) n {i} {j} x f l (there a) (here h) z =
+    at-newest (got r k) es j x h
+    ∙ either-l (both (eqb r r) (knowledge es .before k x)) (knowledge es .past r x)
+    (both-i (eqb r r) (knowledge es .before k x) (eqb-refl r)
+    (known-before es n x f a (sym (at-older (got r k) es i x (at-low a)) ∙ z)))
+known-carried (got r k ∷ es) n {i} {j} x f l (there a) (there b) z =
+    at-older (got r k) es j x (at-low b)
+    ∙ known-carried es n x f l a b (sym (at-older (got r k) es i x (at-low a)) ∙ z)
 
 -- so along every chain
 known-grows : (es : List Event) (n : ℕ) {i j : ℕ} (x : ℕ) → Formed n es → Precedes es i j → known-at es i x ≡ true
@@ -239,7 +183,7 @@ weak-up (inr p) = inr (precedes-up p)
 
 -- followed by an edge
 weak-then : {es : List Event} {i j k : ℕ} → Weak es i j → Precedes es j k → Precedes es i k
-weak-then {es} {i} {j} {k} (inl e) p = subst (λ (z : ℕ). Precedes es z k) (sym e) p
+weak-then {es} {i} {j} {k} (inl e) p = rw e p
 weak-then (inr q) p = chain q p
 
 -- the multicast of x is, or precedes, an event of p
@@ -288,7 +232,13 @@ founded-sent {es} {k} p m c = record {
         (here refl) (eqb-true p q (both-l (eqb p q) (eqb m x) a)) (inl refl)
     | inr a ↦ knows-up (c .past-out q x a)
   ];
-  before-out = λ n x e. links n x e (ℕ-discrete m n);
+  before-out = λ n x e. elim (ℕ-discrete m n) [
+    | no d ↦ linked-up (c .before-out n x (sym (before-old k p m n x d) ∙ e))
+    | yes d ↦ elim (either-e (eqb m x) (k .past p x) (sym (before-new k p m n x d) ∙ e)) [
+      | inl a ↦ linked (length es) p (length es) p (now x (eqb-true m x a)) (now n d) (inl refl)
+      | inr a ↦ follows n x d (c .past-out p x a)
+    ]
+  ];
 }
   where
     -- the newest event
@@ -299,13 +249,6 @@ founded-sent {es} {k} p m c = record {
     follows n x e (knows i r j d a b v w) =
         linked i r (length es) p (there a) (now n e)
         (inr (weak-then (weak-up w) (same d _ (at-low b) (there b) (here refl) v)))
-
-    links : (n x : ℕ) → learn (sent p m) k .before n x ≡ true → Dec (m ≡ n) → Linked (sent p m ∷ es) n x
-    links n x e (no d) = linked-up (c .before-out n x (sym (before-old k p m n x d) ∙ e))
-    links n x e (yes d) = elim (either-e (eqb m x) (k .past p x) (sym (before-new k p m n x d) ∙ e)) [
-      | inl a ↦ linked (length es) p (length es) p (now x (eqb-true m x a)) (now n d) (inl refl)
-      | inr a ↦ follows n x d (c .past-out p x a)
-    ]
 
 -- so of every history
 founded : (es : List Event) → Founded es (knowledge es)
@@ -325,8 +268,9 @@ module _ (es : List Event) (n : ℕ) (f : Formed n es) (x m : ℕ) where
 
   -- and the other way round
   pub before-precedes : knowledge es .before m x ≡ true → x ≢ m → Before es x m
-  before-precedes e ne = go (founded es .before-out m x e)
-    where
-      go : Linked es m x → Before es x m
-      go (linked i r j q a b (inr w)) = casts r q a b w
-      go (linked i r j q a b (inl w)) = let d = at-one w a b in absurd (ne (let y : x ≡ m = cc (d) in y))
+  before-precedes e ne = elim (founded es .before-out m x e) [
+    | linked i r j q a b (inr w) ↦ casts r q a b w
+    | linked i r j q a b (inl w) ↦
+        let d = at-one w a b in
+        absurd (ne (let y : x ≡ m = cc (d) in y))
+  ]

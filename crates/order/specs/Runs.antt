@@ -5,32 +5,30 @@
 use mathlib.Core.Path.{_≡_, refl, sym, ap, _∙_, subst}
 use mathlib.Core.Bool.{true}
 use mathlib.Core.List.{List, [], _∷_}
-use mathlib.Core.Logic.{_⊎_, inl, inr, _≢_}
-use Prim.Native.Nat.{ℕ, zero, suc, _-_, _<_}
+use Prim.Native.Nat.{ℕ, suc, _-_, _<_}
 use native.Mathlib.Omega.{arith}
 use native.Mathlib.Nat.{not-suc-le-zero}
-use native.Mathlib.Decide.{ℕ-discrete}
 use lib.Dec.{ltb}
 use Rattle.base.specs.Tests.{pick-le, both}
 use Rattle.base.specs.Count.{tally}
-use Rattle.world.specs.World.{size, count, trust, causal-length, causal, sender, up, State, put}
+use Rattle.world.specs.World.{size, count, trust, causal-length, sender, up, State, put}
 use Rattle.world.specs.Sound.{Sound}
 use Rattle.world.specs.Setup.{byte, fresh, setup-group, setup-refusal, made}
-use Rattle.world.specs.Machine.{cascade, multicast, leave, arrival, trust-set, crash}
+use Rattle.world.specs.Machine.{cascade, multicast, leave, received, arrival, trust-set, crash}
 use Rattle.world.specs.Steps.{Step, multicasts, arrives, loses, trusts, crashes, malformed, accepted, step}
 use Rattle.world.specs.StepLaws.{accepted-multicast, accepted-arrival, accepted-trust}
-use Rattle.world.specs.History.{Event, sent, At, deliveries, grown, gained, on-states, Run, Item, taken, act, run, started}
+use Rattle.world.specs.History.{Event, sent, At, here, there, gained, on-states, Run, Item, taken, act, run, started}
 use Rattle.keeps.specs.Keeps.{fresh-sound, step-sound}
-use Rattle.effects.specs.Views.{Messages, messages, Process, ground, Ground, Still}
+use Rattle.effects.specs.Views.{Messages, messages, Process, Scene, scene, Still}
 use Rattle.effects.specs.Views.{process as own}
-use Rattle.effects.specs.Arrival.{arrived, arrived-process, arrived-ground}
+use Rattle.effects.specs.Arrival.{received-scene}
+use Rattle.effects.specs.Events.{gained-keeps, grown-none, gained-none, gained-one}
 use Rattle.effects.specs.Runs.{act-keeps, run-keeps}
-use Rattle.effects.specs.Holding.{HeldTo, arrived-held, trusted-held}
+use Rattle.effects.specs.Holding.{HeldTo, received-to, trusted-held}
 use Rattle.order.specs.Knowledge.{knowledge, closed-fresh}
-use Rattle.order.specs.Precedence.{Formed, Newest, at-cases, no-event, old-cast, cast-low}
-use Rattle.order.specs.Counters.{OneMore}
+use Rattle.order.specs.Precedence.{Formed, no-event, old-cast, cast-low}
 use Rattle.order.specs.Multicast.{one-more, meaning-multicast, quiet-multicast, multicast-logs, multicast-count}
-use Rattle.order.specs.Cascade.{MeaningOf, QuietOf, meaning-same, quiet-same, Cascading, cascading-all}
+use Rattle.order.specs.Cascade.{MeaningIn, MeaningOf, QuietIn, QuietOf, Cascading, cascading-all}
 
 -- ---- the invariant of a run
 -- a state and its history
@@ -44,75 +42,6 @@ pub record Whole (r : Run State) : Type 0 where
   pub formed : Formed (r .now count) (r .seen)
   -- who multicast a message is its sender
   pub senders : (i q m : ℕ) → At (r .seen) i (sent q m) → r .now (sender m) ≡ q
-
--- ---- the events of a step
-formed-deliveries : (n p a k : ℕ) (log : ℕ → ℕ) (es : List Event) → Formed n es
-    → Formed n (deliveries p a k log es)
-unfolding deliveries
-formed-deliveries n p a zero log es h = h
-formed-deliveries n p a (suc k) log es h = formed-deliveries n p a k log es h
-
--- the events of a step add no multicast
-formed-gained : (n k : ℕ) (s t : State) (es : List Event) → Formed n es → Formed n (gained k s t es)
-unfolding gained
-formed-gained n zero s t es h = h
-formed-gained n (suc k) s t es h =
-    formed-deliveries n k (s (causal-length k)) (t (causal-length k) - s (causal-length k))
-    (λ i. t (causal k i))
-    (gained k s t es) (formed-gained n k s t es h)
-
--- so a multicast of a longer history is one of the shorter
-at-deliveries : (p a k : ℕ) (log : ℕ → ℕ) (es : List Event) {i q m : ℕ}
-    → At (deliveries p a k log es) i (sent q m)
-    → At es i (sent q m)
-unfolding deliveries
-at-deliveries p a zero log es x = x
-at-deliveries p a (suc k) log es x = at-deliveries p a k log es (old-cast x)
-
--- the same of a step
-at-gained : (k : ℕ) (s t : State) (es : List Event) {i q m : ℕ} → At (gained k s t es) i (sent q m)
-    → At es i (sent q m)
-unfolding gained
-at-gained zero s t es x = x
-at-gained (suc k) s t es x =
-    at-gained k s t es
-    (at-deliveries k (s (causal-length k)) (t (causal-length k) - s (causal-length k)) (λ i. t (causal k i))
-    (gained k s t es) x)
-
--- a log that has not grown gives none
-grown-none : (p : ℕ) (s t : State) (es : List Event) → t (causal-length p) ≡ s (causal-length p)
-    → grown p (s (causal-length p)) t es ≡ es
-unfolding deliveries
-grown-none p s t es e =
-    let z : t (causal-length p) - s (causal-length p) ≡ 0 = omega arith in
-    ap (λ (n : ℕ). deliveries p (s (causal-length p)) n (λ i. t (causal p i)) es) z
-
--- logs that have not grown give none
-gained-none : (n : ℕ) (s t : State) (es : List Event)
-    → ((r : ℕ) → r < n → t (causal-length r) ≡ s (causal-length r))
-    → gained n s t es ≡ es
-unfolding gained
-gained-none zero s t es h = refl
-gained-none (suc n) s t es h =
-    ap (grown n (s (causal-length n)) t) (gained-none n s t es (λ r l. h r (omega arith)))
-    ∙ grown-none n s t es (h n (omega arith))
-
--- where only the log of p has grown
-gained-one : (n p : ℕ) (s t : State) (es : List Event) → p < n
-    → ((r : ℕ) → p ≢ r → t (causal-length r) ≡ s (causal-length r))
-    → gained n s t es ≡ grown p (s (causal-length p)) t es
-unfolding gained
-gained-one zero p s t es l h = absurd (not-suc-le-zero l)
-gained-one (suc n) p s t es l h = go (ℕ-discrete p n) (λ k. gained-one n p s t es k h)
-  where
-    go : Dec (p ≡ n) → (p < n → gained n s t es ≡ grown p (s (causal-length p)) t es)
-        → grown n (s (causal-length n)) t (gained n s t es) ≡ grown p (s (causal-length p)) t es
-    go (yes e) ih =
-        ap (grown n (s (causal-length n)) t) (gained-none n s t es (λ r k. h r (omega arith)))
-        ∙ ap (λ (x : ℕ). grown x (s (causal-length x)) t es) (sym e)
-    go (no e) ih =
-        ap (grown n (s (causal-length n)) t) (ih (omega arith))
-        ∙ grown-none n s t (grown p (s (causal-length p)) t es) (h n e)
 
 -- ---- a fresh world
 fresh-meaning : (n : ℕ) (groups : ℕ → ℕ) → MeaningOf (fresh n groups) []
@@ -162,6 +91,13 @@ whole-started setup ok = record {
   senders = λ i q m a. absurd (no-event a);
 }
 
+-- ---- the multicasts of a longer history are those of the shorter
+old-sent : (s t : State) (es : List Event) {i q m : ℕ} → At (gained (s size) s t es) i (sent q m)
+    → At es i (sent q m)
+old-sent s t es {i} {q} {m} =
+    gained-keeps (λ l. At l i (sent q m) → At es i (sent q m)) (λ _ _ _ h a. h (old-cast a)) (s size) s t es
+    (λ a. a)
+
 -- ---- a step that adds no message
 whole-after : (s t : State) (es : List Event) → messages t ≡ messages s → Sound t
     → MeaningOf t (gained (s size) s t es) → QuietOf t
@@ -170,22 +106,26 @@ whole-after s t es e d o q w = record {
   sound = d;
   meaning = o;
   quiet = q;
-  formed = subst (λ (n : ℕ). Formed n (gained (s size) s t es)) (sym (ap (λ (v : Messages). v .total) e))
-      (formed-gained (s count) (s size) s t es (w .formed));
+  formed = rw (ap (λ (v : Messages). v .total) e)
+      (gained-keeps (Formed (s count)) (λ _ _ _ h. h) (s size) s t es (w .formed));
   senders = λ i q m a. ap (λ (v : Messages). v .sender m) e
-      ∙ w .senders i q m (at-gained (s size) s t es a);
+      ∙ w .senders i q m (old-sent s t es a);
 }
 
 -- a step at p up to its cascade, or a step without one: t is the state then
-module _ (s t : State) (es : List Event) (e : messages t ≡ messages s) (z : t size ≡ s size)
-    (f : (r : ℕ) → own t r ≡ own s r) where
+module _ (s t : State) (es : List Event) (e : scene t ≡ scene s) where
+  -- no log has grown
+  as-long : (r : ℕ) → t (causal-length r) ≡ s (causal-length r)
+  as-long r = ap (λ (v : Scene). v .own r .causal-length) e
+
   -- the cascade begins
   pub cascade-begins : (p : ℕ) → MeaningOf s es → QuietOf s → Cascading p (s (causal-length p)) es t t
   cascade-begins p o q = record {
-    meaning = subst (MeaningOf t) (sym (grown-none p s t es (ap (λ (r : Process). r .causal-length) (f p))))
-        (meaning-same s t e z f es o);
-    quiet = quiet-same s t e z f q;
-    start = omega (arith, ap (λ (r : Process). r .causal-length) (f p));
+    order = rw e (record {
+      meaning = rw (grown-none p s s es refl) o;
+      quiet = q;
+      start = omega arith;
+    });
     same = refl;
     there = λ r n. refl;
   }
@@ -196,31 +136,24 @@ module _ (s t : State) (es : List Event) (e : messages t ≡ messages s) (z : t 
   whole-cascade p hp h d w =
       let c = cascading-all p (s (causal-length p)) es t h (cascade-begins p (w .meaning) (w .quiet)) in
       let only = gained-one (s size) p s (cascade t p) es hp
-      (λ r n. ap (λ (x : Process). x .causal-length) (c .there r n ∙ f r)) in
-      whole-after s (cascade t p) es (ap (λ (v : Still). v .ground .messages) (c .same) ∙ e) d
-      (subst (MeaningOf (cascade t p)) (sym only) (c .meaning)) (c .quiet) w
+      (λ r n. ap (λ (x : Process). x .causal-length) (c .there r n) ∙ as-long r) in
+      whole-after s (cascade t p) es
+      (ap (λ (v : Still). v .ground .messages) (c .same) ∙ ap (λ (v : Scene). v .messages) e) d
+      (rw only (c .order .meaning)) (c .order .quiet) w
 
   -- without a cascade nothing is delivered
   whole-plain : Sound t → Whole (with-history s es) → Whole (with-history t (gained (s size) s t es))
   whole-plain d w =
-      let none = gained-none (s size) s t es (λ r _. ap (λ (x : Process). x .causal-length) (f r)) in
-      whole-after s t es e d (subst (MeaningOf t) (sym none) (meaning-same s t e z f es (w .meaning)))
-      (quiet-same s t e z f (w .quiet)) w
+      whole-after s t es (ap (λ (v : Scene). v .messages) e) d
+      (rw (gained-none (s size) s t es (λ r _. as-long r)) (subst (MeaningIn es) (sym e) (w .meaning)))
+      (subst QuietIn (sym e) (w .quiet)) w
 
 -- who multicast a message is its sender, after a multicast
 multicast-senders : (s : State) (es : List Event) (p groups : ℕ) → Whole (with-history s es) → (i q m : ℕ)
     → At (sent p (s count) ∷ es) i (sent q m) → multicast s p groups (sender m) ≡ q
-multicast-senders s es p groups w i q m a = go (at-cases a)
-  where
-    o : OneMore (messages s) (knowledge es) p groups (messages (multicast s p groups))
-    o = one-more s es p groups (w .meaning)
-
-    go : Newest (sent p (s count)) es i (sent q m) ⊎ At es i (sent q m) → multicast s p groups (sender m) ≡ q
-    go (inl b) =
-        let em : s count ≡ m = cc (b .1) in
-        let eq : p ≡ q = cc (b .1) in
-        subst (λ (x : ℕ). multicast s p groups (sender x) ≡ q) em (o .new-sender ∙ eq)
-    go (inr b) = o .old-sender m (cast-low es (w .formed) b) ∙ w .senders i q m b
+multicast-senders s es p groups w i q m (here h) = one-more s es p groups (w .meaning) .new-sender
+multicast-senders s es p groups w i q m (there a) =
+    one-more s es p groups (w .meaning) .old-sender m (cast-low es (w .formed) a) ∙ w .senders i q m a
 
 -- every accepted step keeps the invariant
 pub whole-step : (s : State) (es : List Event) (x : Step) → accepted s x ≡ true → Whole (with-history s es)
@@ -232,30 +165,28 @@ whole-step s es (multicasts p groups) e w =
     let none = gained-none (s size) s t (sent p (s count) ∷ es) (λ r _. multicast-logs s p groups r) in
     record {
       sound = step-sound s (multicasts p groups) e (w .sound);
-      meaning = subst (MeaningOf t) (sym none) (meaning-multicast s es p groups (w .meaning) (a .process));
+      meaning = rw none (meaning-multicast s es p groups (w .meaning) (a .process));
       quiet = quiet-multicast s es p groups (w .meaning) (w .quiet);
       formed =
-          subst (λ (n : ℕ). Formed n (gained (s size) s t (sent p (s count) ∷ es)))
-          (sym (multicast-count s p groups))
-          (formed-gained (suc (s count)) (s size) s t (sent p (s count) ∷ es) (refl, w .formed));
+          rw (multicast-count s p groups)
+          (gained-keeps (Formed (suc (s count))) (λ _ _ _ h. h) (s size) s t (sent p (s count) ∷ es)
+          (refl, w .formed));
       senders = λ i q m b.
-          multicast-senders s es p groups w i q m (at-gained (s size) s t (sent p (s count) ∷ es) b);
+          multicast-senders s es p groups w i q m (old-sent s t (sent p (s count) ∷ es) b);
     }
 whole-step s es (arrives k m q p) e w =
     let l = accepted-arrival s k m q p e .letter in
-    let g = arrived-ground s k m q p in
-    whole-cascade s (arrived s k m q p) es (ap (λ (v : Ground). v .messages) g) (ap (λ (v : Ground). v .size) g)
-    (arrived-process s k m q p) p (l .to) (arrived-held s (w .sound) k m q p l)
-    (step-sound s (arrives k m q p) e (w .sound)) w
+    whole-cascade s (received s k m q p) es (received-scene s k m q p) p (l .to)
+    (received-to s (w .sound) k m q p l) (step-sound s (arrives k m q p) e (w .sound)) w
 whole-step s es (loses k m q p) e w =
-    whole-plain s (leave s k m q p) es refl refl (λ r. refl) (step-sound s (loses k m q p) e (w .sound)) w
+    whole-plain s (leave s k m q p) es refl (step-sound s (loses k m q p) e (w .sound)) w
 whole-step s es (trusts p set) e w =
     let a = accepted-trust s p set e in
-    whole-cascade s (put s (trust p) set) es refl refl (λ r. refl) p (a .process)
+    whole-cascade s (put s (trust p) set) es refl p (a .process)
     (trusted-held s (w .sound) p set (a .process)) (step-sound s (trusts p set) e (w .sound)) w
 whole-step s es (crashes p) e w =
-    whole-plain s (put s (up p) 0) es refl refl (λ r. refl) (step-sound s (crashes p) e (w .sound)) w
-whole-step s es malformed e w = whole-plain s s es refl refl (λ r. refl) (w .sound) w
+    whole-plain s (put s (up p) 0) es refl (step-sound s (crashes p) e (w .sound)) w
+whole-step s es malformed e w = whole-plain s s es refl (w .sound) w
 
 -- ---- every item and every list keeps it
 pub whole-act : (r : Run State) (i : Item) → Whole r → Whole (act on-states r i)

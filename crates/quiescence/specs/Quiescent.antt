@@ -4,23 +4,24 @@
 use mathlib.Core.Path.{_≡_, refl, sym, ap, ap₂, _∙_, subst}
 use mathlib.Core.Bool.{Bool, true, false, not, _&&_, _||_}
 use mathlib.Core.Logic.{_≢_, _⊎_, inl, inr}
-use Prim.Native.Nat.{ℕ, zero, suc, _+_, _-_, _≤_, _<_}
+use Prim.Native.Nat.{ℕ, _+_, _-_, _≤_, _<_}
 use native.Mathlib.Omega.{arith}
 use native.Mathlib.Decide.{ℕ-discrete}
 use lib.Dec.{eqb}
-use Rattle.base.specs.Tests.{pick, clash, le-or-lt}
+use Rattle.base.specs.Tests.{clash, le-or-lt}
 use Rattle.base.specs.Search.{every, every-cong, first-from, first-law}
 use Rattle.base.specs.Count.{absent-cong}
-use Rattle.base.specs.Loop.{chosen, loop-keeps, loop-stops}
-use Rattle.base.specs.Bits.{bit, with, without}
+use Rattle.base.specs.Loop.{chosen, loop-stops}
+use Rattle.base.specs.Bits.{bit}
 use Rattle.world.specs.World.{Cell, size, count, rule, group, trust, counter, sequence, next, delivered, up, fifo-length, causal-length, held, marks, fifo, causal, sender, mask, stamp, number, flight, order, unused, State, put}
 use Rattle.world.specs.Layout.{put-other}
 use Rattle.world.specs.Sound.{Sound}
-use Rattle.world.specs.Local.{Own, Away, other-away, cascade-away}
-use Rattle.world.specs.Machine.{with-tables, addressed, addressees, in-turn, outside-fifo, marked, ready, deliverable-at, merge, causal-one, causal-all, appended, raised-next, due, send-ok, send-oks, fifo-one, cascade, leave, mark, hold, arrival}
+use Rattle.world.specs.Kept.{causal-all-keeps, oks-keep, cascade-keeps, received-keeps}
+use Rattle.world.specs.Local.{Own, other-away, cascade-away}
+use Rattle.world.specs.Machine.{with-tables, addressed, in-turn, outside-fifo, marked, ready, merge, causal-one, causal-all, appended, raised-next, send-oks, fifo-one, cascade, leave, mark, received, arrival}
 use Rattle.world.specs.Fuel.{cascade-ends}
 use Rattle.world.specs.StepLaws.{InFlight}
-use Rattle.keeps.specs.Cascade.{received, received-sound}
+use Rattle.keeps.specs.Cascade.{received-sound}
 
 abbrev pub Quiescent : State → ℕ → Type 0
 Quiescent s p = (m : ℕ) → m < s count → ready s p m ≡ false
@@ -118,10 +119,7 @@ module _ (p : ℕ) where
   causal-one-fixed t i c (a-letter m k q d) = refl
 
   pub causal-all-fixed : (t : State) (c : Cell) → Fixed p c → causal-all t p c ≡ t c
-  unfolding causal-all
-  causal-all-fixed t c k =
-      loop-keeps (λ u. u (fifo-length p)) (λ u. deliverable-at u p) (λ u. causal-one u p) (λ u. u c ≡ t c)
-      (λ u i _ _ _ e. causal-one-fixed u i c k ∙ e) _ t refl
+  causal-all-fixed t c k = causal-all-keeps (λ u. u c) p (λ u i. causal-one-fixed u i c k) t
 
   not-ok : (x m k q : ℕ) → (k ≢ 2) ⊎ (q ≢ p) → flight x 2 p ≢ flight m k q
   not-ok x m k q (inl d) e = let z : 2 ≡ k = cc in d (sym z)
@@ -141,19 +139,8 @@ module _ (p : ℕ) where
   turn-fixed t q n m v w x c (a-letter y k z d) =
       (refl, refl, put-other t (flight m 2 p) (flight y k z) x (not-ok m y k z d))
 
-  send-ok-fixed : (t : State) (q m : ℕ) (c : Cell) → Fixed p c → send-ok t p q m c ≡ t c
-  unfolding send-ok
-  send-ok-fixed t q m c k = go (due t p q m)
-    where
-      go : (b : Bool) → pick b (put t (flight m 2 p) (addressees t m)) t c ≡ t c
-      go true = turn-fixed t 0 0 m 0 0 (addressees t m) c k .2
-      go false = refl
-
   send-oks-fixed : (t : State) (q n : ℕ) (c : Cell) → Fixed p c → send-oks t p q n c ≡ t c
-  unfolding send-oks
-  send-oks-fixed t q zero c k = refl
-  send-oks-fixed t q (suc n) c k =
-      send-ok-fixed (send-oks t p q n) q n c k ∙ send-oks-fixed t q n c k
+  send-oks-fixed t q n c k = oks-keep (λ u. u c) p (λ u m v. turn-fixed u 0 0 m 0 0 v c k .2) t q n
 
   pub fifo-one-fixed : (t : State) (m : ℕ) (c : Cell) → Fixed p c → fifo-one t p m c ≡ t c
   unfolding fifo-one appended raised-next
@@ -166,10 +153,7 @@ module _ (p : ℕ) where
       ∙ turn-fixed t 0 n m (n + 1) 0 0 c k .0
 
   pub cascade-fixed : (t : State) (c : Cell) → Fixed p c → cascade t p c ≡ t c
-  unfolding cascade
-  cascade-fixed t c k =
-      loop-keeps (λ u. u count) (λ u. ready u p) (λ u. fifo-one u p) (λ u. u c ≡ t c)
-      (λ u m _ _ _ e. fifo-one-fixed u m c k ∙ e) _ t refl
+  cascade-fixed t c k = cascade-keeps (λ u. u c) p (λ u m. fifo-one-fixed u m c k) t
 
 -- ---- a cascade at p
 -- it leaves p quiescent
@@ -224,10 +208,6 @@ cascade-none s p h =
     go (inr l) = clash (first-law (s count) 0 (ready s p) .hit (omega arith)) (h first l)
 
 -- ---- an arrival before its cascade
-pick-at : (b : Bool) (s t : State) (c : Cell) {v : ℕ} → s c ≡ v → t c ≡ v → pick b s t c ≡ v
-pick-at true s t c e f = e
-pick-at false s t c e f = f
-
 module _ (k m q p : ℕ) where
   -- another process or another message
   abbrev Other : ℕ → ℕ → Type 0
@@ -238,52 +218,32 @@ module _ (k m q p : ℕ) where
   not-it r x (inr d) y = d (sym (y .1))
 
   -- it changes neither the numbers of processes and messages, nor who is up
-  received-at : (s : State) (c : Cell) → leave s k m q p c ≡ s c
-      → ((t : State) (v : ℕ) → put t (marks p m) v c ≡ t c)
-      → ((t : State) (j v : ℕ) → put (put t (held p m) 1) (flight m j p) v c ≡ t c) → received s k m q p c ≡ s c
-  unfolding mark hold
-  received-at s c e marking holding =
-      pick-at (eqb (u (held p m)) 1) u _ c here (holding u _ _ ∙ here)
-    where
-      t : State
-      t = leave s k m q p
-
-      u : State
-      u = mark t k m q p
-
-      here : u c ≡ s c
-      here = pick-at (eqb k 2) _ t c (marking t _ ∙ e) e
-
   pub received-count : (s : State) → received s k m q p count ≡ s count
-  unfolding leave put
-  received-count s = received-at s count refl (λ t v. refl) (λ t j v. refl)
+  unfolding put
+  received-count s = received-keeps s k m q p (λ t. t count) (λ _ _ _ _. refl) (λ _ _. refl) (λ _ _. refl)
 
   pub received-size : (s : State) → received s k m q p size ≡ s size
-  unfolding leave put
-  received-size s = received-at s size refl (λ t v. refl) (λ t j v. refl)
+  unfolding put
+  received-size s = received-keeps s k m q p (λ t. t size) (λ _ _ _ _. refl) (λ _ _. refl) (λ _ _. refl)
 
   pub received-up : (s : State) (r : ℕ) → received s k m q p (up r) ≡ s (up r)
-  unfolding leave put
-  received-up s r = received-at s (up r) refl (λ t v. refl) (λ t j v. refl)
+  unfolding put
+  received-up s r = received-keeps s k m q p (λ t. t (up r)) (λ _ _ _ _. refl) (λ _ _. refl) (λ _ _. refl)
 
   -- nor letters of other messages
   pub received-letter : (s : State) (x j o : ℕ) → m ≢ x → received s k m q p (flight x j o) ≡ s (flight x j o)
-  unfolding leave put
+  unfolding put
   received-letter s x j o d =
-      received-at s (flight x j o) (put-other s (flight m k q) (flight x j o) _ (other k q)) (λ t v. refl)
-      (λ t i v. put-other (put t (held p m) 1) (flight m i p) (flight x j o) v (other i p))
-    where
-      other : (i z : ℕ) → flight m i z ≢ flight x j o
-      other i z e = let y : m ≡ x = cc in d y
+      received-keeps s k m q p (λ t. t (flight x j o))
+      (λ t i z v. put-other t (flight m i z) (flight x j o) v (λ e. let y : m ≡ x = cc in d y)) (λ _ _. refl)
+      (λ _ _. refl)
 
   -- nor what tells whether another message, or at another process, is ready
   received-same : (s : State) (r x : ℕ) → Other r x → Same r x s (received s k m q p)
-  unfolding leave
   received-same s r x o c y =
-      received-at s c (put-same-test r x s (flight m k q) (without (s (flight m k q)) p) (λ z. z) c y)
+      received-keeps s k m q p (λ t. t c) (λ t j z v. put-same-test r x t (flight m j z) v (λ e. e) c y)
       (λ t v. put-same-test r x t (marks p m) v (not-it r x o) c y)
-      (λ t j v. put-same-test r x (put t (held p m) 1) (flight m j p) v (λ z. z) c y
-      ∙ put-same-test r x t (held p m) 1 (not-it r x o) c y)
+      (λ t v. put-same-test r x t (held p m) v (not-it r x o) c y)
 
   -- so if p was quiescent, only m may be ready at it, and if m is not, p still is quiescent
   pub received-only : (s : State) → Quiescent s p → OnlyReady (received s k m q p) p m

@@ -9,13 +9,13 @@ use native.Mathlib.Omega.{arith}
 use native.Mathlib.Decide.{ℕ-discrete}
 use lib.Dec.{eqb}
 use borrow.Author.Tests.{eq-eqb}
-use Rattle.base.specs.Tests.{bool-cases, clash, pick, both, both-l, both-r, both-i, le-or-lt}
+use Rattle.base.specs.Tests.{bool-cases, clash, both, both-l, both-r, both-i, le-or-lt}
 use Rattle.base.specs.Search.{every, first-from, first-law}
 use Rattle.base.specs.Count.{in-at, absent, absent-out, out-absent}
-use Rattle.base.specs.Loop.{chosen, loop-keeps}
 use Rattle.world.specs.World.{Cell, size, count, rule, group, trust, counter, sequence, next, delivered, up, fifo-length, causal-length, held, marks, fifo, causal, sender, mask, stamp, number, flight, order, unused, State, put, Cell-discrete}
 use Rattle.world.specs.Layout.{put-same, put-other}
-use Rattle.world.specs.Machine.{with-tables, addressees, in-turn, outside-fifo, marked, ready, deliverable-at, merge, causal-one, causal-all, appended, raised-next, due, send-ok, send-oks, fifo-one}
+use Rattle.world.specs.Kept.{causal-all-keeps, oks-keep}
+use Rattle.world.specs.Machine.{with-tables, in-turn, outside-fifo, marked, ready, deliverable-at, merge, causal-one, causal-all, appended, raised-next, due, send-ok, send-oks, fifo-one}
 use Rattle.quiescence.specs.Quiescent.{Quiescent, OnlyReady, Same, the-count, causal-all-fixed, fifo-one-fixed, put-same-test, ready-same}
 
 -- all messages that are ready at p have the sender of m
@@ -69,16 +69,7 @@ quiescent-lowest s p h = go (le-or-lt (s count) first)
 module _ (p : ℕ) where
   -- ---- OKs change nothing that tells whether a message is ready
   oks-same : (x q k : ℕ) (s : State) → Same p x s (send-oks s p q k)
-  unfolding send-oks send-ok
-  oks-same x q zero s c y = refl
-  oks-same x q (suc k) s c y = go (due t p q k) ∙ oks-same x q k s c y
-    where
-      t : State
-      t = send-oks s p q k
-
-      go : (b : Bool) → pick b (put t (flight k 2 p) (addressees t k)) t c ≡ t c
-      go true = put-same-test p x t (flight k 2 p) (addressees t k) (λ z. z) c y
-      go false = refl
+  oks-same x q k s c y = oks-keep (λ u. u c) p (λ t m v. put-same-test p x t (flight m 2 p) v (λ z. z) c y) s q k
 
   -- ---- causal deliveries change nothing that tells whether a message is ready
   causal-one-same : (x : ℕ) (t : State) (i : ℕ) → Same p x t (causal-one t p i)
@@ -108,10 +99,7 @@ module _ (p : ℕ) where
   causal-one-same x t i (unused j) y = absurd y
 
   causal-all-same : (x : ℕ) (s : State) → Same p x s (causal-all s p)
-  unfolding causal-all
-  causal-all-same x s =
-      loop-keeps (λ u. u (fifo-length p)) (λ u. deliverable-at u p) (λ u. causal-one u p) (Same p x s)
-      (λ u i _ _ _ e c y. causal-one-same x u i c y ∙ e c y) _ s (λ c y. refl)
+  causal-all-same x s c y = causal-all-keeps (λ u. u c) p (λ t i. causal-one-same x t i c y) s
 
   module _ (s : State) (m : ℕ) where
     -- the turn without its causal deliveries and OKs

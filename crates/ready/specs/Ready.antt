@@ -186,9 +186,17 @@ fourth : (a : Bool) → both a false ≡ false
 fourth true = refl
 fourth false = refl
 
-second : (b : Bool) → both (both (both true b) true) true ≡ b
-second true = refl
-second false = refl
+second : (b d : Bool) → both (both (both true b) true) d ≡ both b d
+second true d = refl
+second false d = refl
+
+last : (b : Bool) → both b true ≡ b
+last true = refl
+last false = refl
+
+-- m waits for no mark at p, and is outside its FIFO log
+abbrev pub cleared : State → ℕ → ℕ → Bool
+cleared s p m = both (outside-fifo s p m) (every (s size) (marked s p m))
 
 module _ (s : State) (p m : ℕ) where
   abbrev is-held : Bool
@@ -213,19 +221,21 @@ module _ (s : State) (p m : ℕ) where
   unfolding ready
   ready-not-next e = none is-held new next-one all (ap (both (both is-held new)) e ∙ third is-held new)
 
-  pub ready-lacks : every (s size) (marked s p m) ≡ false → false ≡ ready s p m
-  unfolding ready
-  ready-lacks e = sym (ap (both (both (both is-held new) next-one)) e ∙ fourth (both (both is-held new) next-one))
-
-  pub ready-is : {x n : ℕ} {r : Bool} → x ≡ s (held p m) → x ≡ 1 → in-turn s p m ≡ true
-      → every (s size) (marked s p m) ≡ true → n ≡ s (fifo-length p) → r ≡ absent n m (λ i. s (fifo p i))
+  pub ready-cleared : {x : ℕ} {r : Bool} → x ≡ s (held p m) → x ≡ 1 → in-turn s p m ≡ true → r ≡ cleared s p m
       → r ≡ ready s p m
   unfolding ready
-  ready-is ex h t a en er =
-      er ∙ ap (λ (k : ℕ). absent k m (λ i. s (fifo p i))) en ∙ sym (second new)
-      ∙ sym (ap₂ (λ (x y : Bool). both (both x next-one) y) (ap (λ (x : Bool). both x new)
-      (eq-eqb (s (held p m)) 1 (sym ex ∙ h))) a
-      ∙ ap (λ (x : Bool). both (both (both true new) x) true) t)
+  ready-cleared ex h t er =
+      er ∙ sym (ap₂ (λ (x y : Bool). both (both (both x new) y) all) (eq-eqb (s (held p m)) 1 (sym ex ∙ h)) t
+      ∙ second new all)
+
+  -- its marks, and the log
+  pub cleared-lacks : every (s size) (marked s p m) ≡ false → false ≡ cleared s p m
+  cleared-lacks e = sym (ap (both new) e ∙ fourth new)
+
+  pub cleared-is : {n : ℕ} {r : Bool} → every (s size) (marked s p m) ≡ true → n ≡ s (fifo-length p)
+      → r ≡ absent n m (λ i. s (fifo p i)) → r ≡ cleared s p m
+  cleared-is a en er =
+      er ∙ ap (λ (k : ℕ). absent k m (λ i. s (fifo p i))) en ∙ sym (ap (both new) a ∙ last new)
 
 -- ---- the lowest that is ready
 abbrev pub messages : State → ℕ

@@ -5,10 +5,10 @@ ghost use Prim.Native.Nat.{_<_};
 ghost use lib.ListN.{length};
 ghost use Rattle.base.specs.Search.{every, first-from};
 ghost use Rattle.base.specs.Count.{tally};
-ghost use Rattle.world.specs.World.{size, count, trust, marks, view, Reads};
+ghost use Rattle.world.specs.World.{size, count, trust, held, marks, view, Reads};
 ghost use Rattle.world.specs.Machine.{marked, ready};
 ghost use Rattle.bounds.specs.Bounds.{Bounds};
-ghost use Rattle.ready.specs.Ready.{Waits, unmarked, searched};
+ghost use Rattle.ready.specs.Ready.{Waits, unmarked, cleared, searched};
 
 // The processes that p trusts.
 fn trusted(w: &[u16], p: usize) -> u16
@@ -59,6 +59,32 @@ fn marked_all(w: &[u16], p: usize, m: usize) -> bool
     missing(w, p, m) == 0
 }
 
+// Whether p waits for no mark for message m, and has it outside its FIFO log.
+fn is_cleared(w: &[u16], p: usize, m: usize) -> bool
+    requires { ⌜ (length (now w) ≡ 20480) × (p < 16) × (m < 64) × Bounds (view (now w)) ⌝ }
+    ensures { λ r. ⌜ r ≡ cleared (view (now (w .entry))) p m ⌝ }
+{
+    if !marked_all(w, p, m) {
+        return false;
+    }
+    let n = cells::word(
+        w,
+        cells::PROCESSES + p * cells::PROCESS + cells::FIFO_LENGTH,
+    );
+    deliverable::absent_from(w, cells::PROCESSES + p * cells::PROCESS + cells::FIFO, n, m)
+}
+
+// Whether p can deliver message m, which it holds, in FIFO order.
+pub fn is_ready_held(w: &[u16], p: usize, m: usize) -> bool
+    requires { ⌜ (length (now w) ≡ 20480) × (p < 16) × (m < 64) × Bounds (view (now w)) × (view (now w) (held p m) ≡ 1) ⌝ }
+    ensures { λ r. ⌜ Reads (now (w .entry)) r (λ s. ready s p m) ⌝ }
+{
+    if !sends::in_turn(w, p, m) {
+        return false;
+    }
+    is_cleared(w, p, m)
+}
+
 // Whether p can deliver message m in FIFO order.
 pub fn is_ready(w: &[u16], p: usize, m: usize) -> bool
     requires { ⌜ (length (now w) ≡ 20480) × (p < 16) × (m < 64) × Bounds (view (now w)) ⌝ }
@@ -70,14 +96,7 @@ pub fn is_ready(w: &[u16], p: usize, m: usize) -> bool
     if !sends::in_turn(w, p, m) {
         return false;
     }
-    if !marked_all(w, p, m) {
-        return false;
-    }
-    let n = cells::word(
-        w,
-        cells::PROCESSES + p * cells::PROCESS + cells::FIFO_LENGTH,
-    );
-    deliverable::absent_from(w, cells::PROCESSES + p * cells::PROCESS + cells::FIFO, n, m)
+    is_cleared(w, p, m)
 }
 
 // Whether message m is looked at in a search: all are, or those of q where only these may be ready.

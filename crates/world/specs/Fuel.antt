@@ -1,22 +1,23 @@
--- The fuel of the two loops suffices, where a log lists distinct messages, and so in a sound world: after the
+-- The fuel of the two loops suffices, where a log lists distinct messages, as in a sound world: after the
 -- causal deliveries no message of the FIFO log outside the causal log is deliverable, and after the cascade no
 -- held message is ready. At each turn one message fewer is outside the log, and those outside are no more than
 -- the fuel. Assumes nothing.
 use mathlib.Core.Path.{_≡_, refl, sym, ap, _∙_}
 use mathlib.Core.Bool.{Bool, true, false}
 use mathlib.Core.Logic.{_≢_}
-use Prim.Native.Nat.{ℕ, zero, suc, _+_, _-_, _<_}
+use Prim.Native.Nat.{ℕ, _+_, _-_, _<_}
 use native.Mathlib.Omega.{arith}
 use lib.Dec.{eqb}
 use borrow.Author.Tests.{ltb-true}
-use Rattle.base.specs.Tests.{both, both-l, both-r, pick}
+use Rattle.base.specs.Tests.{both, both-l, both-r}
 use Rattle.base.specs.Count.{In, in-at, tally, tally-falls, absent, absent-out, in-absent, out-absent, absent-room, room-outside}
-use Rattle.base.specs.Loop.{loop-keeps, loop-ends}
-use Rattle.world.specs.World.{Cell, size, count, fifo-length, causal-length, held, fifo, causal, sender, flight, State, put}
+use Rattle.base.specs.Loop.{loop-ends}
+use Rattle.world.specs.World.{size, count, fifo-length, causal-length, held, fifo, causal, sender, State, put}
 use Rattle.world.specs.Layout.{put-same, put-other}
 use Rattle.world.specs.Sound.{Sound}
-use Rattle.world.specs.SoundLaws.{fifo-addressed, fifo-once, causal-in-fifo, causal-once}
-use Rattle.world.specs.Machine.{with-tables, in-turn, outside-fifo, outside-causal, ready, deliverable, deliverable-at, addressees, merge, causal-one, causal-all, appended, raised-next, due, send-ok, send-oks, fifo-one, cascade}
+use Rattle.world.specs.SoundLaws.{fifo-addressed, fifo-once}
+use Rattle.world.specs.Kept.{causal-all-keeps, oks-keep}
+use Rattle.world.specs.Machine.{with-tables, in-turn, outside-fifo, outside-causal, ready, deliverable, deliverable-at, merge, causal-one, causal-all, appended, raised-next, fifo-one, cascade}
 
 ready-outside : (a b c d : Bool) → both (both (both a b) c) d ≡ true → b ≡ true
 ready-outside a b c d e = both-r a b (both-l (both a b) c (both-l (both (both a b) c) d e))
@@ -101,116 +102,44 @@ module _ (p : ℕ) where
       (λ t. tally (t (fifo-length p)) (waiting t)) waiting-falls (s (fifo-length p) - s (causal-length p)) s
       (omega (arith, z))
 
-  -- the causal log, and what the FIFO log gained
-  module _ (s : State) (m : ℕ) where
-    same-causal : (i : ℕ) → appended s p m (causal p i) ≡ s (causal p i)
-    unfolding appended put
-    same-causal i = refl
+-- ---- the cascade: the count and the FIFO log of p, through a FIFO delivery
+record Front : Type 0 where
+  pub total : ℕ
+  pub length : ℕ
+  pub item : ℕ → ℕ
 
-    same-causal-length : appended s p m (causal-length p) ≡ s (causal-length p)
-    unfolding appended put
-    same-causal-length = refl
-
-    longer : appended s p m (fifo-length p) ≡ s (fifo-length p) + 1
-    unfolding appended
-    longer =
-        put-same (put s (fifo p (s (fifo-length p))) m) (fifo-length p) (fifo-length p)
-        (s (fifo-length p) + 1) refl
-
-    old-item : (i : ℕ) → i < s (fifo-length p) → appended s p m (fifo p i) ≡ s (fifo p i)
-    unfolding appended put
-    old-item i l =
-        put-other s (fifo p (s (fifo-length p))) (fifo p i) m
-        (λ e. let z : s (fifo-length p) ≡ i = cc in omega arith)
-
-    still-in : (x : ℕ) → In (s (fifo-length p)) (λ j. s (fifo p j)) x
-        → In (appended s p m (fifo-length p)) (λ j. appended s p m (fifo p j)) x
-    still-in x (in-at j l d) = in-at j (omega (arith, longer)) (old-item j l ∙ d)
-
-  -- inside the FIFO delivery of m in a sound world
-  pub deliveries-end : (s : State) (m : ℕ) → Sound s → p < s size
-      → (i : ℕ) → i < causal-all (appended s p m) p (fifo-length p)
-      → deliverable-at (causal-all (appended s p m) p) p i ≡ false
-  unfolding appended put
-  deliveries-end s m h hp =
-      causal-ends (appended s p m) (λ i j l k. causal-once s h p i j hp l k)
-      (λ i l. still-in s m (s (causal p i)) (causal-in-fifo s h p i hp l))
-
--- ---- the cascade: the FIFO log of p and the count, through a FIFO delivery
 module _ (p : ℕ) where
-  -- c is the count, or the length or an item of the FIFO log of p
-  data Kept : Cell → Type 0 where
-    the-count : Kept count
-    the-length : Kept (fifo-length p)
-    the-item : (i : ℕ) → Kept (fifo p i)
+  abbrev front : State → Front
+  front t = record { total = t count; length = t (fifo-length p); item = λ i. t (fifo p i) }
 
-  one-keeps : (t : State) (i : ℕ) (c : Cell) → Kept c → causal-one t p i c ≡ t c
-  unfolding causal-one merge with-tables put
-  one-keeps t i c the-count = refl
-  one-keeps t i c the-length = refl
-  one-keeps t i c (the-item j) = refl
-
-  all-keeps : (t : State) (c : Cell) → Kept c → causal-all t p c ≡ t c
-  unfolding causal-all
-  all-keeps t c k =
-      loop-keeps (λ u. u (fifo-length p)) (λ u. deliverable-at u p) (λ u. causal-one u p) (λ u. u c ≡ t c)
-      (λ u i _ _ _ e. one-keeps u i c k ∙ e) (t (fifo-length p) - t (causal-length p)) t refl
-
-  next-keeps : (t : State) (q : ℕ) (c : Cell) → Kept c → raised-next t p q c ≡ t c
-  unfolding raised-next put
-  next-keeps t q c the-count = refl
-  next-keeps t q c the-length = refl
-  next-keeps t q c (the-item j) = refl
-
-  sent-keeps : (t : State) (m v : ℕ) (c : Cell) → Kept c → put t (flight m 2 p) v c ≡ t c
-  unfolding put
-  sent-keeps t m v c the-count = refl
-  sent-keeps t m v c the-length = refl
-  sent-keeps t m v c (the-item j) = refl
-
-  ok-keeps : (t : State) (q m : ℕ) (c : Cell) → Kept c → send-ok t p q m c ≡ t c
-  unfolding send-ok
-  ok-keeps t q m c k = go (due t p q m)
-    where
-      go : (b : Bool) → pick b (put t (flight m 2 p) (addressees t m)) t c ≡ t c
-      go true = sent-keeps t m (addressees t m) c k
-      go false = refl
-
-  oks-keeps : (t : State) (q n : ℕ) (c : Cell) → Kept c → send-oks t p q n c ≡ t c
-  unfolding send-oks
-  oks-keeps t q zero c k = refl
-  oks-keeps t q (suc n) c k = ok-keeps (send-oks t p q n) q n c k ∙ oks-keeps t q n c k
-
-  -- only the append shows
-  fifo-one-is : (t : State) (m : ℕ) (c : Cell) → Kept c → fifo-one t p m c ≡ appended t p m c
-  unfolding fifo-one
-  fifo-one-is t m c k =
-      let q : ℕ = t (sender m) in
-      let u : State = causal-all (appended t p m) p in
-      oks-keeps (raised-next u p q) q (raised-next u p q count) c k ∙ next-keeps u q c k
-      ∙ all-keeps (appended t p m) c k
+  -- only the append shows in them
+  fifo-one-is : (t : State) (m : ℕ) → front (fifo-one t p m) ≡ front (appended t p m)
+  unfolding fifo-one causal-one merge with-tables raised-next put
+  fifo-one-is t m =
+      oks-keep front p (λ _ _ _. refl) _ (t (sender m)) _
+      ∙ causal-all-keeps front p (λ _ _. refl) (appended t p m)
 
   count-same : (t : State) (m : ℕ) → fifo-one t p m count ≡ t count
   unfolding appended put
-  count-same t m = fifo-one-is t m count the-count
+  count-same t m = ap (λ (v : Front). v .total) (fifo-one-is t m)
 
   length-more : (t : State) (m : ℕ) → fifo-one t p m (fifo-length p) ≡ t (fifo-length p) + 1
   unfolding appended
   length-more t m =
-      fifo-one-is t m (fifo-length p) the-length
+      ap (λ (v : Front). v .length) (fifo-one-is t m)
       ∙ put-same (put t (fifo p (t (fifo-length p))) m) (fifo-length p) (fifo-length p)
       (t (fifo-length p) + 1) refl
 
   item-new : (t : State) (m : ℕ) → fifo-one t p m (fifo p (t (fifo-length p))) ≡ m
   unfolding appended put
   item-new t m =
-      fifo-one-is t m (fifo p (t (fifo-length p))) (the-item (t (fifo-length p)))
+      ap (λ (v : Front). v .item (t (fifo-length p))) (fifo-one-is t m)
       ∙ put-same t (fifo p (t (fifo-length p))) (fifo p (t (fifo-length p))) m refl
 
   item-old : (t : State) (m i : ℕ) → i < t (fifo-length p) → fifo-one t p m (fifo p i) ≡ t (fifo p i)
   unfolding appended put
   item-old t m i l =
-      fifo-one-is t m (fifo p i) (the-item i)
+      ap (λ (v : Front). v .item i) (fifo-one-is t m)
       ∙ put-other t (fifo p (t (fifo-length p))) (fifo p i) m
       (λ e. let z : t (fifo-length p) ≡ i = cc in omega arith)
 

@@ -13,6 +13,6 @@ pub mod Answers
 pub mod History
 pub mod Demand
 pub mod Calls
+pub mod Kept
 pub mod Local
-pub mod Looks
 pub mod Fuel

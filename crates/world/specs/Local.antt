@@ -1,17 +1,14 @@
 -- A step at one process leaves every other process's own words as they were: document 01, "Steps". The
 -- cascade at p writes p's own words and the letters that p sends, and nothing else. Assumes nothing.
 use mathlib.Core.Path.{_≡_, refl, sym, _∙_, subst}
-use mathlib.Core.Bool.{Bool, true, false}
 use mathlib.Core.Logic.{_≢_}
-use Prim.Native.Nat.{ℕ, zero, suc, _+_, _-_, max}
-use lib.Dec.{eqb}
+use Prim.Native.Nat.{ℕ, _+_}
 use borrow.Author.Tests.{ne-eqb}
-use Rattle.base.specs.Tests.{pick, pick-no}
-use Rattle.base.specs.Loop.{loop-keeps}
-use Rattle.base.specs.Bits.{with}
+use Rattle.base.specs.Tests.{pick-no}
 use Rattle.world.specs.World.{Cell, size, count, rule, group, trust, counter, sequence, next, delivered, up, fifo-length, causal-length, held, marks, fifo, causal, sender, mask, stamp, number, flight, order, unused, State, put}
 use Rattle.world.specs.Layout.{put-other}
-use Rattle.world.specs.Machine.{with-tables, addressees, in-turn, ready, deliverable-at, merge, causal-one, causal-all, appended, raised-next, due, send-ok, send-oks, fifo-one, cascade, leave, mark, hold, arrival, trust-set, crash}
+use Rattle.world.specs.Machine.{with-tables, merge, causal-one, causal-all, appended, raised-next, send-oks, fifo-one, cascade, received, arrival, trust-set, crash}
+use Rattle.world.specs.Kept.{causal-all-keeps, oks-keep, cascade-keeps, received-keeps}
 
 -- ---- the own words of process p
 abbrev pub Own : ℕ → Cell → Type 0
@@ -90,8 +87,7 @@ sent-put s p m k c v a = put-other s (flight m k p) c v (a .not-sent m k)
 module _ (p : ℕ) where
   merge-away : (s : State) (m : ℕ) (c : Cell) → Away p c → merge s p m c ≡ s c
   unfolding merge with-tables
-  merge-away s m (counter r g q) a =
-      pick-no (max (s (counter r g q)) (s (stamp m g q))) (s (counter r g q)) (ne-eqb p r (a .not-own))
+  merge-away s m (counter r g q) a = pick-no _ (s (counter r g q)) (ne-eqb p r (a .not-own))
   merge-away s m size a = refl
   merge-away s m count a = refl
   merge-away s m rule a = refl
@@ -115,7 +111,7 @@ module _ (p : ℕ) where
   merge-away s m (order j) a = refl
   merge-away s m (unused i) a = refl
 
-  causal-one-away : (s : State) (i : ℕ) (c : Cell) → Away p c → causal-one s p i c ≡ s c
+  pub causal-one-away : (s : State) (i : ℕ) (c : Cell) → Away p c → causal-one s p i c ≡ s c
   unfolding causal-one
   causal-one-away s i c a =
       let m : ℕ = s (fifo p i) in
@@ -125,34 +121,21 @@ module _ (p : ℕ) where
       merge-away _ m c a ∙ own-put u p (delivered p (s (sender m))) c _ refl a
       ∙ own-put t p (causal-length p) c (n + 1) refl a ∙ own-put s p (causal p n) c m refl a
 
-  causal-all-away : (s : State) (c : Cell) → Away p c → causal-all s p c ≡ s c
-  unfolding causal-all
-  causal-all-away s c a =
-      loop-keeps (λ t. t (fifo-length p)) (λ t. deliverable-at t p) (λ t. causal-one t p) (λ t. t c ≡ s c)
-      (λ t i _ _ _ e. causal-one-away t i c a ∙ e) (s (fifo-length p) - s (causal-length p)) s refl
+  pub causal-all-away : (s : State) (c : Cell) → Away p c → causal-all s p c ≡ s c
+  causal-all-away s c a = causal-all-keeps (λ t. t c) p (λ t i. causal-one-away t i c a) s
 
-  appended-away : (s : State) (m : ℕ) (c : Cell) → Away p c → appended s p m c ≡ s c
+  pub appended-away : (s : State) (m : ℕ) (c : Cell) → Away p c → appended s p m c ≡ s c
   unfolding appended
   appended-away s m c a =
       own-put (put s (fifo p (s (fifo-length p))) m) p (fifo-length p) c _ refl a
       ∙ own-put s p (fifo p (s (fifo-length p))) c m refl a
 
-  raised-next-away : (s : State) (q : ℕ) (c : Cell) → Away p c → raised-next s p q c ≡ s c
+  pub raised-next-away : (s : State) (q : ℕ) (c : Cell) → Away p c → raised-next s p q c ≡ s c
   unfolding raised-next
   raised-next-away s q c a = own-put s p (next p q) c _ refl a
 
-  send-ok-away : (s : State) (q m : ℕ) (c : Cell) → Away p c → send-ok s p q m c ≡ s c
-  unfolding send-ok
-  send-ok-away s q m c a = go (due s p q m)
-    where
-      go : (b : Bool) → pick b (put s (flight m 2 p) (addressees s m)) s c ≡ s c
-      go true = sent-put s p m 2 c (addressees s m) a
-      go false = refl
-
   send-oks-away : (s : State) (q k : ℕ) (c : Cell) → Away p c → send-oks s p q k c ≡ s c
-  unfolding send-oks
-  send-oks-away s q zero c a = refl
-  send-oks-away s q (suc k) c a = send-ok-away (send-oks s p q k) q k c a ∙ send-oks-away s q k c a
+  send-oks-away s q k c a = oks-keep (λ t. t c) p (λ t m v. sent-put t p m 2 c v a) s q k
 
   pub fifo-one-away : (s : State) (m : ℕ) (c : Cell) → Away p c → fifo-one s p m c ≡ s c
   unfolding fifo-one
@@ -163,44 +146,20 @@ module _ (p : ℕ) where
       ∙ causal-all-away (appended s p m) c a ∙ appended-away s m c a
 
   pub cascade-away : (s : State) (c : Cell) → Away p c → cascade s p c ≡ s c
-  unfolding cascade
-  cascade-away s c a =
-      loop-keeps (λ t. t count) (λ t. ready t p) (λ t. fifo-one t p) (λ t. t c ≡ s c)
-      (λ t m _ _ _ e. fifo-one-away t m c a ∙ e) (s count - s (fifo-length p)) s refl
+  cascade-away s c a = cascade-keeps (λ t. t c) p (λ t m. fifo-one-away t m c a) s
 
 -- ---- the steps at p leave every other process's own words as they were
 module _ (p r : ℕ) (d : p ≡ r → ⊥) (c : Cell) (o : Own r c) where
-  leave-local : (s : State) (k m q : ℕ) → leave s k m q p c ≡ s c
-  unfolding leave
-  leave-local s k m q = put-other s (flight m k q) c _ (own-no-letter r c o m k q)
-
-  mark-local : (s : State) (k m q : ℕ) → mark s k m q p c ≡ s c
-  unfolding mark
-  mark-local s k m q = go (eqb k 2)
-    where
-      go : (b : Bool) → pick b (put s (marks p m) (with (s (marks p m)) q)) s c ≡ s c
-      go true = own-put s p (marks p m) c _ refl (other-away p r c o d)
-      go false = refl
-
-  hold-local : (s : State) (m : ℕ) → hold s p m c ≡ s c
-  unfolding hold
-  hold-local s m = go (eqb (s (held p m)) 1)
-    where
-      k : ℕ
-      k = pick (in-turn s p m) 2 1
-
-      go : (b : Bool) → pick b s (put (put s (held p m) 1) (flight m k p) (addressees s m)) c ≡ s c
-      go true = refl
-      go false =
-          sent-put (put s (held p m) 1) p m k c (addressees s m) (other-away p r c o d)
-          ∙ own-put s p (held p m) c 1 refl (other-away p r c o d)
+  pub received-local : (s : State) (k m q : ℕ) → received s k m q p c ≡ s c
+  received-local s k m q =
+      received-keeps s k m q p (λ t. t c) (λ t j x v. put-other t (flight m j x) c v (own-no-letter r c o m j x))
+      (λ t v. own-put t p (marks p m) c v refl (other-away p r c o d))
+      (λ t v. own-put t p (held p m) c v refl (other-away p r c o d))
 
   pub arrival-local : (s : State) (k m q : ℕ) → arrival s k m q p c ≡ s c
   unfolding arrival
   arrival-local s k m q =
-      cascade-away p (hold (mark (leave s k m q p) k m q p) p m) c (other-away p r c o d)
-      ∙ hold-local (mark (leave s k m q p) k m q p) m ∙ mark-local (leave s k m q p) k m q
-      ∙ leave-local s k m q
+      cascade-away p (received s k m q p) c (other-away p r c o d) ∙ received-local s k m q
 
   pub trust-local : (s : State) (set : ℕ) → trust-set s p set c ≡ s c
   unfolding trust-set

@@ -191,9 +191,13 @@ hold s p m =
     pick (eqb (s (held p m)) 1) s
     (put (put s (held p m) 1) (flight m (pick (in-turn s p m) 2 1) p) (addressees s m))
 
+-- An arrival up to here: the letter has left flight, an OK has set its mark, the message is held.
+abbrev pub received : State → ℕ → ℕ → ℕ → ℕ → State
+received s k m q p = hold (mark (leave s k m q p) k m q p) p m
+
 -- "Then the cascade."
 unfoldable pub arrival : State → ℕ → ℕ → ℕ → ℕ → State
-arrival s k m q p = cascade (hold (mark (leave s k m q p) k m q p) p m) p
+arrival s k m q p = cascade (received s k m q p) p
 
 -- ---- 3 loss: "The letter leaves flight", and nothing else (leave)
 -- ---- 4 trust: the set of p "replaces the set. Then the cascade."

@@ -419,6 +419,3 @@ module _ (s t : State) (e : (c : Cell) → Within c → s c ≡ t c) (h : Sound 
 pub sound-words : (w : List ℕ) (s : State) → w ≡ encode s → Sound s → Sound (view w)
 sound-words w s q h =
     sound-on s (view w) (λ c k. sym (ap (λ (x : List ℕ). view x c) q ∙ get-encode s c k)) h
-
-pub sound-state : (w : List ℕ) (s : State) → w ≡ encode s → Sound (view w) → Sound s
-sound-state w s q h = sound-on (view w) s (λ c k. ap (λ (x : List ℕ). view x c) q ∙ get-encode s c k) h

@@ -5,16 +5,15 @@ use native.Mathlib.Omega.{arith}
 use borrow.Author.Needs.{needs}
 use borrow.Author.Tests.{not-true, not-false}
 use Rattle.base.specs.Loop.{chosen}
-use Rattle.world.specs.Layout.{encode-view}
-use Rattle.world.specs.Machine.{leave, mark, arrival}
-use Rattle.world.specs.World.{count, State, encode, view}
+use Rattle.world.specs.Layout.{encode-view, reads-cell}
+use Rattle.world.specs.Machine.{leave, mark, received, arrival}
+use Rattle.world.specs.World.{count, held, State, encode, view}
 use Rattle.bounds.specs.Bounds.{Bounds, bounds-words}
-use Rattle.keeps.specs.Cascade.{received}
 use Rattle.receiving.specs.Receiving.{bounds-marked, bounds-hold}
 use Rattle.quiescence.specs.Quiescent.{Quiescent, received-count, received-only}
 use Rattle.quiescence.specs.Turn.{only-lowest, only-sender}
 use Rattle.ready.specs.Ready.{known-words}
-use Rattle.arrivals.specs.Arrival.{received-law, is-quiescent, over-law, mark-only}
+use Rattle.arrivals.specs.Arrival.{received-law, received-held, is-quiescent, over-law, mark-only}
 use Rattle.arrivals.proofs.arrive.Statement.{statement}
 use Rattle.arrivals.proofs.arrive.Tie as tie
 
@@ -96,11 +95,19 @@ returns c =
     let h = o .before .before .before .before .before in
     (tt, o .cascade-all .ensures .1 (received-from h) (received-words h))
 
-is-ready-requires : tie.Need-is-ready-requires
-is-ready-requires c κs =
+is-ready-held-requires : tie.Need-is-ready-held-requires
+unfolding received-from
+is-ready-held-requires c κs =
     let h = c .before .before .before .before in
     let b = h .before .before .before .before .before .before .before .before .before .before .before in
-    (h .take-hold .ensures .1 .0, b .pre .4, b .pre .2, received-bounds h)
+    let a = b .args in (
+      h .take-hold .ensures .1 .0,
+      b .pre .4,
+      b .pre .2,
+      received-bounds h,
+      reads-cell (h .take-hold .last .0) (held (a .p) (a .m)) (b .pre .4, b .pre .2) (received-from h) (received-words h)
+          ∙ received-held (view (a .w .now)) (a .k) (a .m) (a .q) (a .p),
+    )
 
 same-length-2 : tie.Need-same-length-2
 same-length-2 c = search needs
@@ -129,7 +136,7 @@ over c =
     let h = r .before .before .before .before .before in
     let a = h .before .before .before .before .before .before .before .before .before .before .before .args in
     over-law (view (a .w .now)) (a .k) (a .m) (a .q) (a .p) (quiet (r .before .before))
-    (sym (r .is-ready .ensures (received-from h) (received-words h)) ∙ not-true (r .is-ready .result) (c .if2 .taken))
+    (sym (r .is-ready-held .ensures (received-from h) (received-words h)) ∙ not-true (r .is-ready-held .result) (c .if2 .taken))
 
 returns-2 : tie.Need-returns-2
 unfolding held-from received-from arrived-to
@@ -152,8 +159,8 @@ cascade-from-requires c κs =
     let a = b .args in
     let only = received-only (a .k) (a .m) (a .q) (a .p) (view (a .w .now)) (quiet (r .before .before)) in
     let low : a .m < received-from h count = omega (arith, received-count (a .k) (a .m) (a .q) (a .p) (view (a .w .now)), b .pre .7) in
-    let it = sym (r .is-ready .ensures (received-from h) (received-words h))
-    ∙ not-false (r .is-ready .result) (c .before .if2 .left) in (
+    let it = sym (r .is-ready-held .ensures (received-from h) (received-words h))
+    ∙ not-false (r .is-ready-held .result) (c .before .if2 .left) in (
       h .take-hold .ensures .1 .0,
       b .pre .4,
       b .pre .2,
@@ -186,7 +193,7 @@ arrive-spec =
     cascade-all-requires
     same-length
     returns
-    is-ready-requires
+    is-ready-held-requires
     same-length-2
     returns-2
     cascade-from-requires
