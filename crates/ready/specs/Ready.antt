@@ -6,7 +6,7 @@ use Prim.Native.Nat.{ℕ, zero, suc, _≤_, _<_}
 use native.Mathlib.Omega.{arith}
 use lib.Bits.{bitAnd, bitXor}
 use lib.Dec.{eqb}
-use borrow.Author.Tests.{eqb-true, eq-eqb, ne-eqb}
+use borrow.Author.Tests.{eqb-true, eq-eqb, ne-eqb, not-true}
 use native.Mathlib.Decide.{ℕ-discrete}
 use mathlib.Core.Logic.{_⊎_, inl, inr}
 use Rattle.base.specs.Tests.{bool-cases, clash, same, both, either}
@@ -86,8 +86,16 @@ sender-state true w s p m q h hp hm a = λ x l e.
     ∙ reads-cell w (sender x) hx s q
 sender-state false w s p m q h hp hm a = tt
 
+fourth : (a : Bool) → both a false ≡ false
+fourth true = refl
+fourth false = refl
+
 -- ---- the marks that p waits for: those of the addressees that it trusts
--- what the answer "p waits for the lowest trusted process without a mark" says: if so, a mark is missing
+-- the processes that p trusts and has no mark of
+abbrev pub trusted-unmarked : State → ℕ → ℕ → ℕ
+trusted-unmarked s p m = bitAnd (s (trust p)) (bitXor (s (trust p)) (s (marks p m)))
+
+-- what the answer "the lowest of these is an addressee" says: if so, a mark is missing
 abbrev pub Waits : State → ℕ → ℕ → Bool → Type 0
 Waits s p m r = r ≡ true → every (s size) (marked s p m) ≡ false
 
@@ -105,59 +113,47 @@ tally-past (suc k) n f h e = go (ℕ-discrete n (suc k)) (λ l. tally-past k n f
     go (yes d) ih = ap (λ (j : ℕ). tally j f) (sym d)
     go (no d) ih = rw (e k (omega arith)) (ih (omega arith))
 
-module _ (s : State) (p m : ℕ) {t k : ℕ} (et : t ≡ s (trust p)) (ek : k ≡ s (marks p m)) where
-  -- whether q's mark is there, by the two masks
-  marked-masks : (q : ℕ) → either (not (both (bit t q) (addressed s m q))) (bit k q) ≡ marked s p m q
-  marked-masks q = ap₂ (λ (x y : ℕ). either (not (both (bit x q) (addressed s m q))) (bit y q)) et ek
-
-  pub waits-lowest : {q n : ℕ} {r : Bool} → q ≡ first-from 16 0 (bit (bitAnd t (bitXor t k))) → n ≡ s size
-      → n ≤ 16 → q < n → r ≡ addressed s m q → Waits s p m r
-  waits-lowest {q} eq en h l er e =
-      every-fails (s size) (marked s p m) q (omega (arith, en))
-      (sym (marked-masks q) ∙ lacks (bit t q) (bit k q) (addressed s m q) (sym bits ∙ hit) (sym er ∙ e))
+module _ (s : State) (p m : ℕ) where
+  -- an addressee among them is unmarked
+  unmarked-bits : (q : ℕ) → both (bit (trusted-unmarked s p m) q) (addressed s m q) ≡ unmarked s p m q
+  unmarked-bits q =
+      ap (λ (b : Bool). both b (addressed s m q))
+      (bit-and (s (trust p)) (bitXor (s (trust p)) (s (marks p m))) q
+      ∙ ap (both (bit (s (trust p)) q)) (bit-xor (s (trust p)) (s (marks p m)) q))
+      ∙ turned (bit (s (trust p)) q) (bit (s (marks p m)) q) (addressed s m q)
     where
-      hit : bit (bitAnd t (bitXor t k)) q ≡ true
-      hit = ap (bit (bitAnd t (bitXor t k))) eq ∙ first-law 16 0 (bit (bitAnd t (bitXor t k))) .hit (omega (arith, eq))
-
-      bits : bit (bitAnd t (bitXor t k)) q ≡ both (bit t q) (differs (bit t q) (bit k q))
-      bits = bit-and t (bitXor t k) q ∙ ap (both (bit t q)) (bit-xor t k q)
-
-      lacks : (t k a : Bool) → both t (differs t k) ≡ true → a ≡ true → either (not (both t a)) k ≡ false
-      lacks true false a e f = ap (λ (b : Bool). either (not b) false) f
-      lacks true true a e f = clash e refl
-      lacks false k a e f = clash e refl
-
-  -- the addressees a that p trusts and has no mark of are counted
-  pub missing-count : {a r : ℕ} → s size ≤ 16 → a ≡ addressees s m
-      → r ≡ tally 16 (bit (bitAnd (bitAnd a t) (bitXor (bitAnd a t) k))) → r ≡ tally (s size) (unmarked s p m)
-  missing-count {a} h ea er =
-      er
-      ∙ tally-past 16 (s size) (bit x) h
-      (λ q l. bits q ∙ ap (λ (b : Bool). lacks (both b (bit t q)) (bit k q))
-      (ap (λ (y : ℕ). bit y q) ea ∙ bit-mask-of-above (s size) (addressed s m) q l))
-      ∙ tally-cong (s size) (bit x) (unmarked s p m)
-      (λ q l. bits q ∙ ap (λ (b : Bool). lacks (both b (bit t q)) (bit k q))
-      (ap (λ (y : ℕ). bit y q) ea ∙ bit-mask-of (s size) (addressed s m) q l)
-      ∙ turned (addressed s m q) (bit t q) (bit k q) ∙ ap not (marked-masks q))
-    where
-      x : ℕ
-      x = bitAnd (bitAnd a t) (bitXor (bitAnd a t) k)
-
-      lacks : Bool → Bool → Bool
-      lacks b c = both b (differs b c)
-
-      bits : (q : ℕ) → bit x q ≡ lacks (both (bit a q) (bit t q)) (bit k q)
-      bits q =
-          bit-and (bitAnd a t) (bitXor (bitAnd a t) k) q
-          ∙ ap (both (bit (bitAnd a t) q)) (bit-xor (bitAnd a t) k q)
-          ∙ ap (λ (b : Bool). lacks b (bit k q)) (bit-and a t q)
-
-      turned : (d b c : Bool) → lacks (both d b) c ≡ not (either (not (both b d)) c)
+      turned : (t k a : Bool) → both (both t (differs t k)) a ≡ not (either (not (both t a)) k)
       turned true true true = refl
       turned true true false = refl
-      turned true false c = refl
-      turned false true c = refl
-      turned false false c = refl
+      turned true false true = refl
+      turned true false false = refl
+      turned false k a = refl
+
+  pub waits-lowest : {x q n : ℕ} {r : Bool} → x ≡ trusted-unmarked s p m → q ≡ first-from 16 0 (bit x) → n ≡ s size
+      → n ≤ 16 → q < n → r ≡ addressed s m q → Waits s p m r
+  waits-lowest {x} {q} ex eq en h l er e =
+      every-fails (s size) (marked s p m) q (omega (arith, en))
+      (not-true (marked s p m q) (sym (unmarked-bits q) ∙ ap₂ both (ap (λ (y : ℕ). bit y q) (sym ex) ∙ hit) (sym er ∙ e)))
+    where
+      hit : bit x q ≡ true
+      hit = ap (bit x) eq ∙ first-law 16 0 (bit x) .hit (omega (arith, eq))
+
+  -- the addressees among them are counted
+  pub missing-count : {x a r : ℕ} → s size ≤ 16 → x ≡ trusted-unmarked s p m → a ≡ bitAnd x (addressees s m)
+      → r ≡ tally 16 (bit a) → r ≡ tally (s size) (unmarked s p m)
+  missing-count {x} {a} h ex ea er =
+      er
+      ∙ tally-past 16 (s size) (bit a) h
+      (λ q l. bits q ∙ ap (both (bit (trusted-unmarked s p m) q)) (bit-mask-of-above (s size) (addressed s m) q l)
+      ∙ fourth (bit (trusted-unmarked s p m) q))
+      ∙ tally-cong (s size) (bit a) (unmarked s p m)
+      (λ q l. bits q ∙ ap (both (bit (trusted-unmarked s p m) q)) (bit-mask-of (s size) (addressed s m) q l)
+      ∙ unmarked-bits q)
+    where
+      bits : (q : ℕ) → bit a q ≡ both (bit (trusted-unmarked s p m) q) (bit (addressees s m) q)
+      bits q =
+          ap (λ (y : ℕ). bit y q) ea ∙ bit-and x (addressees s m) q
+          ∙ ap (λ (y : ℕ). both (bit y q) (bit (addressees s m) q)) ex
 
 -- none is missing
 pub none-missing : (s : State) (p m : ℕ) {x : ℕ} → x ≡ tally (s size) (unmarked s p m)
@@ -181,10 +177,6 @@ third : (a b : Bool) → both (both a b) false ≡ false
 third true true = refl
 third true false = refl
 third false b = refl
-
-fourth : (a : Bool) → both a false ≡ false
-fourth true = refl
-fourth false = refl
 
 second : (b d : Bool) → both (both (both true b) true) d ≡ both b d
 second true d = refl

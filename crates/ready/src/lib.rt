@@ -5,47 +5,40 @@ ghost use Prim.Native.Nat.{_<_};
 ghost use lib.ListN.{length};
 ghost use Rattle.base.specs.Search.{every, first-from};
 ghost use Rattle.base.specs.Count.{tally};
-ghost use Rattle.world.specs.World.{size, count, trust, held, marks, view, Reads};
+ghost use Rattle.world.specs.World.{size, count, held, view, Reads};
 ghost use Rattle.world.specs.Machine.{marked, ready};
 ghost use Rattle.bounds.specs.Bounds.{Bounds};
-ghost use Rattle.ready.specs.Ready.{Waits, unmarked, cleared, searched};
+ghost use Rattle.ready.specs.Ready.{trusted-unmarked, Waits, unmarked, cleared, searched};
 
-// The processes that p trusts.
-fn trusted(w: &[u16], p: usize) -> u16
-    requires { ⌜ (length (now w) ≡ 20480) × (p < 16) ⌝ }
-    ensures { λ r. ⌜ r ≡ view (now (w .entry)) (trust p) ⌝ }
-{
-    w[cells::PROCESSES + p * cells::PROCESS + cells::TRUST]
-}
-
-// The processes of which p has a mark for message m.
-fn marks_of(w: &[u16], p: usize, m: usize) -> u16
+// The processes that p trusts and has no mark of for message m.
+fn without_mark(w: &[u16], p: usize, m: usize) -> u16
     requires { ⌜ (length (now w) ≡ 20480) × (p < 16) × (m < 64) ⌝ }
-    ensures { λ r. ⌜ r ≡ view (now (w .entry)) (marks p m) ⌝ }
+    ensures { λ r. ⌜ r ≡ trusted-unmarked (view (now (w .entry))) p m ⌝ }
 {
-    w[cells::PROCESSES + p * cells::PROCESS + cells::MARKS + m]
+    let t = w[cells::PROCESSES + p * cells::PROCESS + cells::TRUST];
+    let k = w[cells::PROCESSES + p * cells::PROCESS + cells::MARKS + m];
+    t & (t ^ k)
 }
 
-// Whether the lowest process that p trusts and has no mark of for message m is an addressee. If so, p waits for it.
+// Whether the lowest of them is an addressee. If so, p waits for its mark.
 fn waits_for_lowest(w: &[u16], p: usize, m: usize) -> bool
     requires { ⌜ (length (now w) ≡ 20480) × (p < 16) × (m < 64) × Bounds (view (now w)) ⌝ }
     ensures { λ r. ⌜ Waits (view (now (w .entry))) p m r ⌝ }
 {
-    let t = trusted(w, p);
-    let q = masks::lowest(t & (t ^ marks_of(w, p, m))) as usize;
+    let q = masks::lowest(without_mark(w, p, m)) as usize;
     if q < cells::word(w, cells::SIZE) {
         return sends::is_addressed(w, m, q);
     }
     false
 }
 
-// How many of the addressees of message m that p trusts it has no mark of.
+// How many addressees of message m there are whose mark p waits for.
 fn missing(w: &[u16], p: usize, m: usize) -> u32
     requires { ⌜ (length (now w) ≡ 20480) × (p < 16) × (m < 64) × Bounds (view (now w)) ⌝ }
     ensures { λ r. ⌜ r ≡ tally (view (now (w .entry)) size) (unmarked (view (now (w .entry))) p m) ⌝ }
 {
-    let a = sends::addressees_of(w, m) & trusted(w, p);
-    masks::count(a & (a ^ marks_of(w, p, m)))
+    let a = sends::addressees_among(w, m, without_mark(w, p, m));
+    masks::count(a)
 }
 
 // Whether p waits for no mark for message m.

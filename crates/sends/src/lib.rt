@@ -2,6 +2,7 @@
 ghost use mathlib.Core.Path.{_≡_};
 ghost use Prim.Native.Nat.{_+_, _<_};
 ghost use lib.ListN.{length};
+ghost use lib.Bits.{bitAnd};
 ghost use Rattle.base.specs.Bits.{with};
 ghost use Rattle.base.specs.Tests.{pick};
 ghost use Rattle.base.specs.Search.{some};
@@ -43,6 +44,26 @@ pub fn addressees_of(w: &[u16], m: usize) -> u16
         let yes = is_addressed(w, m, q);
         a = with_if(a, q, yes);
         q += 1;
+    }
+    a
+}
+
+// The addressees of message m that are in a mask.
+pub fn addressees_among(w: &[u16], m: usize, among: u16) -> u16
+    requires { ⌜ (length (now w) ≡ 20480) × (m < 64) × Bounds (view (now w)) ⌝ }
+    ensures { λ r. ⌜ r ≡ bitAnd among (addressees (view (now (w .entry))) m) ⌝ }
+{
+    let n = cells::word(w, cells::SIZE);
+    let mut a: u16 = 0;
+    let mut left = among;
+    while left != 0 {
+        let q = masks::lowest(left) as usize;
+        if n <= q {
+            return a;
+        }
+        let yes = is_addressed(w, m, q);
+        a = with_if(a, q, yes);
+        left = masks::clear(left, q);
     }
     a
 }

@@ -9,11 +9,8 @@ use Rattle.ready.specs.Ready.{waits-lowest}
 use Rattle.ready.proofs.waits_for_lowest.Statement.{statement}
 use Rattle.ready.proofs.waits_for_lowest.Tie as tie
 
-trusted-requires : tie.Need-trusted-requires
-trusted-requires c κs = search needs
-
-marks-of-requires : tie.Need-marks-of-requires
-marks-of-requires c κs = search needs
+without-mark-requires : tie.Need-without-mark-requires
+without-mark-requires c κs = search needs
 
 lowest-requires : tie.Need-lowest-requires
 lowest-requires c κs = search needs
@@ -26,7 +23,7 @@ word-requires c κs = search needs
 
 is-addressed-requires : tie.Need-is-addressed-requires
 is-addressed-requires c κs =
-    let b = c .before .before .before .before .before .before in
+    let b = c .before .before .before .before .before in
     let s = b .pre .3 .sizes in
     (b .pre .0, b .pre .2, omega (arith, c .before .word .ensures, c .if1 .taken, s), b .pre .3)
 
@@ -34,13 +31,12 @@ returns : tie.Need-returns
 returns c =
     let n = c .before .before in
     let q = n .before in
-    let k = q .before in
-    let t = k .before in
+    let t = q .before in
     let b = t .before .before in
     let a = b .args in
     let s = b .pre .3 .sizes in
-    waits-lowest (view (a .w .now)) (a .p) (a .m) (t .trusted .ensures) (k .marks-of .ensures) (q .lowest .ensures)
-    (n .word .ensures) (omega (arith, n .word .ensures, s)) (c .before .if1 .taken) (c .is-addressed .ensures)
+    waits-lowest (view (a .w .now)) (a .p) (a .m) (t .without-mark .ensures) (q .lowest .ensures) (n .word .ensures)
+    (omega (arith, n .word .ensures, s)) (c .before .if1 .taken) (c .is-addressed .ensures)
 
 returns-2 : tie.Need-returns-2
 returns-2 c e = clash e refl
@@ -49,8 +45,7 @@ pub waits-for-lowest-spec : {M : Type 1} → statement M
 waits-for-lowest-spec =
     tie.close
     (tie.spec
-    trusted-requires
-    marks-of-requires
+    without-mark-requires
     lowest-requires
     cast-q
     word-requires
