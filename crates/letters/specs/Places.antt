@@ -10,7 +10,7 @@ use native.Mathlib.Nat.{sub-zero}
 use native.Mathlib.Decide.{ℕ-discrete}
 use lib.Bits.{bitAnd}
 use lib.Dec.{ltb, eqb}
-use borrow.Author.Tests.{ltb-true, ltb-false, lt-ltb, le-ltb, eqb-true, not-false}
+use borrow.Author.Tests.{ltb-true, ltb-false, le-ltb, eqb-true, not-false}
 use Rattle.base.specs.Tests.{pick, clash, bool-cases, both-l, both-r}
 use Rattle.base.specs.Search.{first-from, First, first-law, first-skip, first-end}
 use Rattle.base.specs.Bits.{bit, with, without, mask-of, mask-of-cong, bit-and, bit-zero, bit-mask-of}

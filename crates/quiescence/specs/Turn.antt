@@ -1,21 +1,21 @@
 -- A turn of the cascade at a process where all ready messages have one sender: so they have after it, each is owed an
 -- OK, and if the turn sends none, it leaves the process quiescent. What it delivers causally has no part in what is
 -- ready, and neither have the OKs. Assumes nothing.
-use mathlib.Core.Path.{_≡_, refl, sym, ap, ap₂, _∙_, subst}
+use mathlib.Core.Path.{_≡_, refl, sym, ap, ap₂, _∙_}
 use mathlib.Core.Bool.{Bool, true, false}
 use mathlib.Core.Logic.{_≢_, _⊎_, inl, inr}
-use Prim.Native.Nat.{ℕ, zero, suc, _+_, _-_, _≤_, _<_}
+use Prim.Native.Nat.{ℕ, _+_, _-_, _≤_, _<_}
 use native.Mathlib.Omega.{arith}
 use native.Mathlib.Decide.{ℕ-discrete}
 use lib.Dec.{eqb}
 use borrow.Author.Tests.{eq-eqb}
 use Rattle.base.specs.Tests.{bool-cases, clash, both, both-l, both-r, both-i, le-or-lt}
 use Rattle.base.specs.Search.{every, first-from, first-law}
-use Rattle.base.specs.Count.{in-at, absent, absent-out, out-absent}
-use Rattle.world.specs.World.{Cell, size, count, rule, group, trust, counter, sequence, next, delivered, up, fifo-length, causal-length, held, marks, fifo, causal, sender, mask, stamp, number, flight, order, unused, State, put, Cell-discrete}
+use Rattle.base.specs.Count.{in-at, absent-out, out-absent}
+use Rattle.world.specs.World.{size, count, rule, group, trust, counter, sequence, next, delivered, up, fifo-length, causal-length, held, marks, fifo, causal, sender, mask, stamp, number, flight, order, unused, State, put, Cell-discrete}
 use Rattle.world.specs.Layout.{put-same, put-other}
 use Rattle.world.specs.Kept.{causal-all-keeps, oks-keep}
-use Rattle.world.specs.Machine.{with-tables, in-turn, outside-fifo, marked, ready, deliverable-at, merge, causal-one, causal-all, appended, raised-next, due, send-ok, send-oks, fifo-one}
+use Rattle.world.specs.Machine.{with-tables, in-turn, outside-fifo, marked, ready, merge, causal-one, causal-all, appended, raised-next, due, send-oks, fifo-one}
 use Rattle.quiescence.specs.Quiescent.{Quiescent, OnlyReady, Same, the-count, causal-all-fixed, fifo-one-fixed, put-same-test, ready-same}
 
 -- all messages that are ready at p have the sender of m

@@ -9,7 +9,7 @@ use lib.Dec.{eqb}
 use borrow.Author.Tests.{eqb-true, eq-eqb, ne-eqb, not-true}
 use native.Mathlib.Decide.{ℕ-discrete}
 use mathlib.Core.Logic.{_⊎_, inl, inr}
-use Rattle.base.specs.Tests.{bool-cases, clash, same, both, either}
+use Rattle.base.specs.Tests.{bool-cases, same, both, either}
 use Rattle.base.specs.Bits.{bit, differs, bit-and, bit-xor, bit-mask-of, bit-mask-of-above}
 use Rattle.base.specs.Search.{every, every-true, every-intro, every-fails, every-cong, first-from, first-law, first-cong}
 use Rattle.base.specs.Count.{tally, tally-zero, tally-cong, tally-pos, absent}

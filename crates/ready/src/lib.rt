@@ -79,7 +79,7 @@ pub fn is_ready_held(w: &[u16], p: usize, m: usize) -> bool
 }
 
 // Whether p can deliver message m in FIFO order.
-pub fn is_ready(w: &[u16], p: usize, m: usize) -> bool
+fn is_ready(w: &[u16], p: usize, m: usize) -> bool
     requires { ⌜ (length (now w) ≡ 20480) × (p < 16) × (m < 64) × Bounds (view (now w)) ⌝ }
     ensures { λ r. ⌜ Reads (now (w .entry)) r (λ s. ready s p m) ⌝ }
 {

@@ -14,7 +14,7 @@ use borrow.Author.Tests.{eq-eqb, ne-eqb, lt-ltb}
 use Rattle.base.specs.Tests.{pick}
 use Rattle.base.specs.Search.{every}
 use Rattle.base.specs.Count.{tally, tally-le}
-use Rattle.world.specs.World.{size, next, fifo-length, sender, view}
+use Rattle.world.specs.World.{size, next, fifo-length, view}
 use Rattle.world.specs.Sound.{frame, process, word, logged-of, fit, fine}
 use Rattle.regions.specs.Runs.{fine-run, run-of}
 use Rattle.regions.specs.Rows.{Block}

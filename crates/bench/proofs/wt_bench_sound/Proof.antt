@@ -2,7 +2,6 @@
 use mathlib.Core.Path.{sym, _∙_}
 use borrow.Author.Tests.{eq-eqb, ne-eqb, not-true, not-false}
 use borrow.Author.Needs.{needs}
-use borrow.Author.Needs.{needs}
 use Rattle.bench.proofs.wt_bench_sound.Statement.{statement}
 use Rattle.bench.proofs.wt_bench_sound.Tie as tie
 

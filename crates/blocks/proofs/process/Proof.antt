@@ -4,7 +4,7 @@ use mathlib.Core.Bool.{true}
 use borrow.Author.Tests.{not-true, not-false}
 use Rattle.world.specs.World.{view}
 use Rattle.blocks.specs.Logs.{logs-fine}
-use Rattle.blocks.specs.Process.{front-fine, block, lengths, block-front, block-logs, block-rest}
+use Rattle.blocks.specs.Process.{front-fine, lengths, block-front, block-logs, block-rest}
 use borrow.Author.Needs.{needs}
 use Rattle.blocks.proofs.process.Statement.{statement}
 use Rattle.blocks.proofs.process.Tie as tie

@@ -3,7 +3,6 @@ use native.Mathlib.Omega.{arith}
 use Rattle.world.specs.World.{view}
 use Rattle.heads.specs.Groups.{group-test}
 use borrow.Author.Needs.{needs}
-use borrow.Author.Needs.{needs}
 use Rattle.heads.proofs.groups.Statement.{statement}
 use Rattle.heads.proofs.groups.Tie as tie
 

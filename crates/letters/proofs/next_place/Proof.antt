@@ -1,10 +1,8 @@
 -- `letters::next_place` meets its contract. Assumes nothing.
-use mathlib.Core.Path.{_≡_, sym, ap, _∙_}
-use mathlib.Core.Bool.{Bool}
+use mathlib.Core.Path.{sym, ap, _∙_}
 use Prim.Native.Nat.{ℕ}
 use borrow.Author.Needs.{needs}
 use Rattle.world.specs.World.{view}
-use Rattle.letters.specs.declared.Place.{Place}
 use Rattle.letters.specs.Places.{next-place}
 use Rattle.letters.proofs.next_place.Statement.{statement}
 use Rattle.letters.proofs.next_place.Tie as tie

@@ -1,7 +1,6 @@
 -- `limits::flag` meets its contract. Assumes nothing.
 use mathlib.Core.Path.{sym, _∙_}
 use borrow.Author.Needs.{needs}
-use borrow.Author.Needs.{needs}
 use Rattle.limits.proofs.flag.Statement.{statement}
 use Rattle.limits.proofs.flag.Tie as tie
 

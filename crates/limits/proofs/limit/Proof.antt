@@ -2,7 +2,6 @@
 use mathlib.Core.Path.{sym, _∙_}
 use Rattle.limits.specs.Limits.{limit-at}
 use borrow.Author.Needs.{needs}
-use borrow.Author.Needs.{needs}
 use Rattle.limits.proofs.limit.Statement.{statement}
 use Rattle.limits.proofs.limit.Tie as tie
 

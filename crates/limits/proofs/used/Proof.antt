@@ -6,7 +6,6 @@ use lib.Dec.{ltb}
 use borrow.Author.Tests.{lt-ltb, le-ltb}
 use Rattle.limits.specs.Limits.{used-at}
 use borrow.Author.Needs.{needs}
-use borrow.Author.Needs.{needs}
 use Rattle.limits.proofs.used.Statement.{statement}
 use Rattle.limits.proofs.used.Tie as tie
 

@@ -1,6 +1,5 @@
 -- `logtest::listed` meets its contract: its three parts. Assumes nothing.
 use borrow.Author.Needs.{needs}
-use borrow.Author.Needs.{needs}
 use Rattle.logtest.proofs.listed.Statement.{statement}
 use Rattle.logtest.proofs.listed.Tie as tie
 

@@ -1,7 +1,7 @@
 -- `ready::first_ready` meets its contract. The loop's invariant: the first message from i on that passes is the
 -- first of all. Assumes nothing.
 use mathlib.Core.Bool.{false}
-use mathlib.Core.Logic.{_⊎_, inl, inr}
+use mathlib.Core.Logic.{inl, inr}
 use mathlib.Core.Path.{_≡_, sym, ap, _∙_}
 use Prim.Native.Nat.{ℕ, _-_, _≤_, _<_}
 use native.Mathlib.Omega.{arith}

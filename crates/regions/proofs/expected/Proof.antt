@@ -2,7 +2,6 @@
 use borrow.Author.Tests.{lt-ltb, le-ltb}
 use Rattle.regions.specs.Nexts.{next-of}
 use borrow.Author.Needs.{needs}
-use borrow.Author.Needs.{needs}
 use Rattle.regions.proofs.expected.Statement.{statement}
 use Rattle.regions.proofs.expected.Tie as tie
 

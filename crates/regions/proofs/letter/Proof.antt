@@ -2,7 +2,6 @@
 use mathlib.Core.Path.{sym, _∙_}
 use Rattle.regions.specs.Letters.{letter-ok}
 use borrow.Author.Needs.{needs}
-use borrow.Author.Needs.{needs}
 use Rattle.regions.proofs.letter.Statement.{statement}
 use Rattle.regions.proofs.letter.Tie as tie
 

@@ -2,7 +2,6 @@
 use mathlib.Core.Path.{sym, _∙_}
 use Rattle.regions.specs.Rows.{row-ok}
 use borrow.Author.Needs.{needs}
-use borrow.Author.Needs.{needs}
 use Rattle.regions.proofs.row.Statement.{statement}
 use Rattle.regions.proofs.row.Tie as tie
 

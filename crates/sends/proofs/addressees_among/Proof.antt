@@ -1,11 +1,9 @@
 -- `sends::addressees_among` meets its contract. The loop's invariant: those of the mask that are not left are found.
 -- Assumes nothing.
-use mathlib.Core.Path.{_≡_, sym, ap, _∙_, subst}
+use mathlib.Core.Path.{sym, subst}
 use Prim.Native.Nat.{ℕ, _<_}
 use native.Mathlib.Omega.{arith}
 use borrow.Author.Needs.{needs}
-use lib.Bits.{bitAnd}
-use Rattle.base.specs.Bits.{mask-of}
 use Rattle.world.specs.Machine.{addressed}
 use Rattle.world.specs.World.{view, size}
 use Rattle.sends.specs.Among.{Among, among-start, among-hit, among-more, among-past, among-end, without-less}

@@ -6,7 +6,6 @@ use Rattle.world.specs.World.{view}
 use Rattle.heads.specs.Known.{Sized, Grouped}
 use Rattle.soundness.specs.Whole.{not-sound, header-sound, header-sized, groups-sound, groups-placed, heads-sound, heads-headed}
 use borrow.Author.Needs.{needs}
-use borrow.Author.Needs.{needs}
 use Rattle.soundness.proofs.test.Statement.{statement}
 use Rattle.soundness.proofs.test.Tie as tie
 

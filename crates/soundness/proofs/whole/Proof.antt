@@ -3,7 +3,6 @@ use mathlib.Core.Path.{refl}
 use Rattle.blocks.specs.Known.{Ready}
 use Rattle.soundness.specs.Whole.{ready, whole-law}
 use borrow.Author.Needs.{needs}
-use borrow.Author.Needs.{needs}
 use Rattle.soundness.proofs.whole.Statement.{statement}
 use Rattle.soundness.proofs.whole.Tie as tie
 

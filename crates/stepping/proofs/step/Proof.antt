@@ -1,5 +1,5 @@
 -- `stepping::step` meets its contract: what the refusal says decides. Assumes nothing.
-use mathlib.Core.Path.{_≡_, sym, ap, _∙_}
+use mathlib.Core.Path.{sym, ap, _∙_}
 use Rattle.world.specs.World.{encode, view}
 use Rattle.world.specs.Steps.{Step, read, refusal, step}
 use Rattle.stepping.specs.Stepping.{taken-zero, refused-number, words-taken, words-refused}
