@@ -4,7 +4,7 @@ use mathlib.Core.Path.{_≡_, refl, sym, ap, ap₂, _∙_}
 use Prim.Native.Nat.{ℕ, zero, suc, _+_, _-_, _*_, _/_, _%_, _^_, _≤_, _<_}
 use native.Mathlib.Nat.{mod-lt, not-suc-le-zero, le-of-suc-le-suc, one-mul, zero-mul, zero-div, mul-mod-left, mul-div-cancel, div-one, div-eq-of-lt, pow-suc}
 use native.Mathlib.Omega.{arith}
-use lib.Pow.{shr-shr, pow-pos, pow-mono, shl-exact, pow-add}
+use lib.Pow.{shr-shr, pow-mono, shl-exact, pow-add}
 use lib.Bits.{bitAnd, bitOr, bitXor, and-high, and-zero-r, or-add-and, xor-add-and, and-shr, and-mod, or-shr, or-mod, xor-shr, xor-mod}
 use lib.Dec.{eqb, lit<, eqb·suc-suc}
 use borrow.Author.Tests.{ne-eqb, eq-eqb}
@@ -42,17 +42,6 @@ pub and-one : (m p : ℕ) → bitAnd m (2 ^ p) ≡ (m / 2 ^ p % 2) * 2 ^ p
 and-one m p =
     let e : 2 ^ (1 + p) - 2 ^ p ≡ 2 ^ p = rw (pow-add 2 1 p) (omega arith) in
     ap (bitAnd m) (sym e) ∙ and-high m 1 p
-
--- a digit is 0 or 1
-test-digit : (d n : ℕ) → d < 2 → 0 < n → not (eqb (d * n) 0) ≡ eqb d 1
-test-digit zero n h g = rw (zero-mul n)
-test-digit (suc zero) n h g = rw (one-mul n, ne-eqb n 0 (λ e. omega arith))
-test-digit (suc (suc d)) n h g = absurd (not-suc-le-zero (le-of-suc-le-suc (le-of-suc-le-suc h)))
-
-pub test-bit : (m p : ℕ) → not (eqb (bitAnd m (2 ^ p)) 0) ≡ bit m p
-unfolding bit
-test-bit m p =
-    rw (and-one m p) (test-digit (m / 2 ^ p % 2) (2 ^ p) (mod-lt (m / 2 ^ p) (lit< tt)) (pow-pos p))
 
 with-digit : (d n m o : ℕ) → d < 2 → o + d * n ≡ m + n → o ≡ pick (eqb d 1) m (m + n)
 with-digit zero n m o h e = omega arith
@@ -206,9 +195,6 @@ without-old m p q e = go (ℕ-discrete p q)
     go : Dec (p ≡ q) → bit m q ≡ true
     go (yes d) = clash e (ap (bit (without m p)) (sym d) ∙ without-hit m p)
     go (no d) = sym (without-other m p q d) ∙ e
-
-pub without-none : (m p : ℕ) → m ≡ 0 → without m p ≡ 0
-without-none m p e = sym (sub-without m p) ∙ omega arith
 
 pub bit-mask-of-above : (n : ℕ) (f : ℕ → Bool) (i : ℕ) → n ≤ i → bit (mask-of n f) i ≡ false
 unfolding mask-of

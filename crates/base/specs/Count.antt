@@ -67,6 +67,16 @@ tally-falls (suc n) f g h m l a b = go (ℕ-discrete m n) (λ k. tally-falls n f
         rw (a′, b′) (omega (arith, tally-mono n f g (λ i _. h i)))
     go (no e) ih = pick-strict (f n) (g n) (tally n g) (tally n f) (h n) (ih (omega arith))
 
+-- a count past the last that passes
+pub tally-past : (k n : ℕ) (f : ℕ → Bool) → n ≤ k → ((i : ℕ) → n ≤ i → f i ≡ false) → tally k f ≡ tally n f
+unfolding tally
+tally-past zero n f h e = let z : 0 ≡ n = omega arith in ap (λ (j : ℕ). tally j f) z
+tally-past (suc k) n f h e = go (ℕ-discrete n (suc k)) (λ l. tally-past k n f l e)
+  where
+    go : Dec (n ≡ suc k) → (n ≤ k → tally k f ≡ tally n f) → tally (suc k) f ≡ tally n f
+    go (yes d) ih = ap (λ (j : ℕ). tally j f) (sym d)
+    go (no d) ih = rw (e k (omega arith)) (ih (omega arith))
+
 -- one passes
 pub tally-pos : (n : ℕ) (f : ℕ → Bool) (m : ℕ) → m < n → f m ≡ true → 0 < tally n f
 tally-pos n f m h e =

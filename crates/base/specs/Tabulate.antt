@@ -47,11 +47,6 @@ is-tabulate d n f xs l h =
     ext-getD d xs (tabulate n f) (l ∙ sym (length-tabulate n f))
     (λ j hj. let k : j < n = omega arith in h j k ∙ sym (getD-tabulate n f j d k))
 
-pub tabulate-ext : {A : Type 0} (d : A) (n : ℕ) (f g : ℕ → A) → ((i : ℕ) → i < n → f i ≡ g i)
-    → tabulate n f ≡ tabulate n g
-tabulate-ext d n f g h =
-    is-tabulate d n g (tabulate n f) (length-tabulate n f) (λ i l. getD-tabulate n f i d l ∙ h i l)
-
 -- w with the words from base on replaced by xs
 unfoldable pub splice : List ℕ → ℕ → List ℕ → List ℕ
 splice w base xs = take base w ++ (xs ++ drop (length xs) (drop base w))

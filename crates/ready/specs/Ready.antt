@@ -2,17 +2,16 @@
 use mathlib.Core.Path.{_≡_, refl, sym, ap, ap₂, _∙_, subst}
 use mathlib.Core.Bool.{Bool, true, false, not, _&&_}
 use mathlib.Core.List.{List}
-use Prim.Native.Nat.{ℕ, zero, suc, _≤_, _<_}
+use Prim.Native.Nat.{ℕ, _≤_, _<_}
 use native.Mathlib.Omega.{arith}
 use lib.Bits.{bitAnd, bitXor}
 use lib.Dec.{eqb}
 use borrow.Author.Tests.{eqb-true, eq-eqb, ne-eqb, not-true}
-use native.Mathlib.Decide.{ℕ-discrete}
 use mathlib.Core.Logic.{_⊎_, inl, inr}
 use Rattle.base.specs.Tests.{bool-cases, same, both, either}
 use Rattle.base.specs.Bits.{bit, differs, bit-and, bit-xor, bit-mask-of, bit-mask-of-above}
 use Rattle.base.specs.Search.{every, every-true, every-intro, every-fails, every-cong, first-from, first-law, first-cong}
-use Rattle.base.specs.Count.{tally, tally-zero, tally-cong, tally-pos, absent}
+use Rattle.base.specs.Count.{tally, tally-past, tally-zero, tally-cong, tally-pos, absent}
 use Rattle.base.specs.Loop.{chosen}
 use Rattle.world.specs.World.{size, count, trust, fifo-length, held, marks, fifo, sender, State, encode, view, Reads}
 use Rattle.world.specs.Layout.{get-encode, reads-cell}
@@ -102,16 +101,6 @@ Waits s p m r = r ≡ true → every (s size) (marked s p m) ≡ false
 -- q is a trusted addressee of m of which p has no mark
 abbrev pub unmarked : State → ℕ → ℕ → ℕ → Bool
 unmarked s p m q = not (marked s p m q)
-
--- a count past the last that passes
-tally-past : (k n : ℕ) (f : ℕ → Bool) → n ≤ k → ((i : ℕ) → n ≤ i → f i ≡ false) → tally k f ≡ tally n f
-unfolding tally
-tally-past zero n f h e = let z : 0 ≡ n = omega arith in ap (λ (j : ℕ). tally j f) z
-tally-past (suc k) n f h e = go (ℕ-discrete n (suc k)) (λ l. tally-past k n f l e)
-  where
-    go : Dec (n ≡ suc k) → (n ≤ k → tally k f ≡ tally n f) → tally (suc k) f ≡ tally n f
-    go (yes d) ih = ap (λ (j : ℕ). tally j f) (sym d)
-    go (no d) ih = rw (e k (omega arith)) (ih (omega arith))
 
 module _ (s : State) (p m : ℕ) where
   -- an addressee among them is unmarked
