@@ -2,6 +2,7 @@
 -- the loop of the code beside the definition's. The FIFO log has room for what is left, since the loop
 -- counts down how many messages it lacks. Assumes nothing.
 use mathlib.Core.Path.{_≡_, refl, sym, ap, ap₂, _∙_}
+use mathlib.Core.Bool.{false}
 use mathlib.Core.List.{List}
 use Prim.Native.Nat.{ℕ, suc, _+_, _-_, _≤_, _<_}
 use native.Mathlib.Omega.{arith}
@@ -12,6 +13,7 @@ use Rattle.world.specs.Layout.{put-same, put-at, set-encode, reads-cell}
 use Rattle.world.specs.Machine.{with-tables, merge, causal-one, causal-all, ready, appended, raised-next, send-oks, fifo-one, cascade}
 use Rattle.bounds.specs.Bounds.{Bounds, bounds-state}
 use Rattle.bounds.specs.Run.{Run, run-end, run-stop}
+use Rattle.logs.specs.Pushed.{pushed}
 use Rattle.causal.specs.Causal.{causal-bounds, causal-stands}
 use Rattle.sends.specs.Sends.{oks-keep, bounds-oks}
 use Rattle.ready.specs.Ready.{messages, lowest}
@@ -152,18 +154,6 @@ pub cascading-end : (p : ℕ) (s : State) {w : List ℕ} {n left : ℕ} → left
 cascading-end p s z t = run-end messages (λ t. ready t p) (λ t. fifo-one t p) (rw z at t)
 
 -- ---- the stores of a FIFO delivery
-pub appended-law : (w : List ℕ) (p m : ℕ) {n : ℕ} → p < 16 → n ≡ view w (fifo-length p)
-    → view w (fifo-length p) < 64
-    → Changes w (set (set w (addr (fifo p n)) m) (addr (fifo-length p)) (n + 1)) (λ s. appended s p m)
-unfolding appended
-appended-law w p m {n} hp en room s e =
-    ap (λ (x : List ℕ). set (set x (addr (fifo p n)) m) (addr (fifo-length p)) (n + 1)) e
-    ∙ ap (λ (x : List ℕ). set x (addr (fifo-length p)) (n + 1))
-    (set-encode s (fifo p n) m (hp, omega (arith, en)))
-    ∙ set-encode (put s (fifo p n) m) (fifo-length p) (n + 1) hp
-    ∙ ap (λ (k : ℕ). encode (put (put s (fifo p k) m) (fifo-length p) (k + 1)))
-    (en ∙ reads-cell w (fifo-length p) hp s e)
-
 pub raised-law : (w : List ℕ) (p q : ℕ) {x : ℕ} → p < 16 → q < 16 → x ≡ view w (next p q)
     → Changes w (set w (addr (next p q)) (x + 1)) (λ s. raised-next s p q)
 unfolding raised-next
@@ -173,10 +163,10 @@ raised-law w p q {x} hp hq ex s e =
 
 -- the parts one after the other
 pub fifo-law : (w u1 u2 u3 u4 : List ℕ) (p m : ℕ) {q : ℕ} → m < 64 → q ≡ view w (sender m)
-    → Changes w u1 (λ s. appended s p m) → Changes u1 u2 (λ s. causal-all s p)
+    → Changes w u1 (λ s. pushed s p false m) → Changes u1 u2 (λ s. causal-all s p)
     → Changes u2 u3 (λ s. raised-next s p q) → Changes u3 u4 (λ s. send-oks s p q (s count))
     → Changes w u4 (λ s. fifo-one s p m)
-unfolding fifo-one
+unfolding fifo-one appended
 fifo-law w u1 u2 u3 u4 p m {q} hm eq c1 c2 c3 c4 s e =
     let t : State = causal-all (appended s p m) p in
     c4 (raised-next t p q) (c3 t (c2 (appended s p m) (c1 s e)))

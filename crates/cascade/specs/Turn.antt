@@ -17,6 +17,7 @@ use Rattle.bounds.specs.Bounds.{Bounds, bounds-words}
 use Rattle.bounds.specs.Run.{run-more}
 use Rattle.quiescence.specs.Quiescent.{Quiescent, the-count, a-sender, fifo-one-fixed}
 use Rattle.quiescence.specs.Turn.{OneSenderIf, NoneDue, before-oks, quiescent-lowest, turn-sender, turn-quiescent}
+use Rattle.logs.specs.Pushed.{pushed}
 use Rattle.ready.specs.Ready.{messages, lowest, looked, looked-lowest, KnownIf, known-state}
 use Rattle.cascade.specs.Cascade.{Cascading, kept-more, cascading-stop}
 
@@ -25,9 +26,10 @@ abbrev pub owes-after : State → ℕ → ℕ → Bool
 owes-after s p m = some (before-oks s p m count) (due (before-oks s p m) p (s (sender m)))
 
 pub owes-law : (w u1 u2 u3 : List ℕ) (p m : ℕ) {q : ℕ} {r : Bool} → m < 64 → q ≡ view w (sender m)
-    → Changes w u1 (λ s. appended s p m) → Changes u1 u2 (λ s. causal-all s p)
+    → Changes w u1 (λ s. pushed s p false m) → Changes u1 u2 (λ s. causal-all s p)
     → Changes u2 u3 (λ s. raised-next s p q) → Reads u3 r (λ s. some (s count) (due s p q))
     → Reads w r (λ s. owes-after s p m)
+unfolding appended
 owes-law w u1 u2 u3 p m {q} hm eq c1 c2 c3 c4 s e =
     let t : State = causal-all (appended s p m) p in
     c4 (raised-next t p q) (c3 t (c2 (appended s p m) (c1 s e)))

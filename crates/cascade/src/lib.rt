@@ -3,23 +3,10 @@ ghost use mathlib.Core.Path.{_≡_};
 ghost use Prim.Native.Nat.{_+_, _≤_, _<_};
 ghost use lib.ListN.{length};
 ghost use Rattle.world.specs.World.{count, fifo-length, next, view, Reads, Changes};
-ghost use Rattle.world.specs.Machine.{appended, raised-next, fifo-one, cascade};
+ghost use Rattle.world.specs.Machine.{raised-next, fifo-one, cascade};
 ghost use Rattle.bounds.specs.Bounds.{Bounds};
 ghost use Rattle.ready.specs.Ready.{KnownIf};
 ghost use Rattle.cascade.specs.Turn.{owes-after, choice};
-
-// Message m appended to p's FIFO log.
-pub fn append(w: &mut [u16], p: usize, m: usize)
-    requires { ⌜ (length (now w) ≡ 20480) × (p < 16) × (m < 64) × (view (now w) (fifo-length p) < 64) ⌝ }
-    ensures { λ _. ⌜ (length (now (w .exit)) ≡ 20480) × Changes (now (w .entry)) (now (w .exit)) (λ s. appended s p m) ⌝ }
-{
-    let n = cells::word(
-        w,
-        cells::PROCESSES + p * cells::PROCESS + cells::FIFO_LENGTH,
-    );
-    w[cells::PROCESSES + p * cells::PROCESS + cells::FIFO + n] = m as u16;
-    w[cells::PROCESSES + p * cells::PROCESS + cells::FIFO_LENGTH] = (n + 1) as u16;
-}
 
 // What p expects of q next rises by 1.
 pub fn raise_next(w: &mut [u16], p: usize, q: usize)
@@ -37,7 +24,7 @@ pub fn fifo_one(w: &mut [u16], p: usize, m: usize) -> bool
     ensures words { λ _. ⌜ (length (now (w .exit)) ≡ 20480) × Changes (now (w .entry)) (now (w .exit)) (λ s. fifo-one s p m) ⌝ }
 {
     let q = cells::word(w, cells::MESSAGES + m * cells::MESSAGE);
-    append(w, p, m);
+    logs::push(w, p, false, m);
     causal::causal_all(w, p);
     raise_next(w, p, q);
     sends::send_oks(w, p, q)

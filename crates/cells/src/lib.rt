@@ -1,7 +1,7 @@
-// The words of a world: the places of docs/LAYOUT.md, a word read, and parts read and stored.
+// The words of a world: the places of docs/LAYOUT.md, a word read, letters read and stored, and parts read and stored.
 ghost use mathlib.Core.Path.{_≡_};
-ghost use Prim.Native.Nat.{_+_, _≤_, _<_};
-ghost use lib.ListN.{length, take, drop, getD, replicate};
+ghost use Prim.Native.Nat.{_+_, _*_, _≤_, _<_};
+ghost use lib.ListN.{length, take, drop, getD, set, replicate};
 ghost use Rattle.base.specs.Tabulate.{splice};
 
 // The number of words of a world.
@@ -69,6 +69,22 @@ pub fn word(w: &[u16], a: usize) -> usize
     ensures { λ r. ⌜ r ≡ getD (now (w .entry)) a 0 ⌝ }
 {
     wide(w[a])
+}
+
+// The receivers of the letters of kind k for message m from q.
+pub fn letters(w: &[u16], m: usize, k: usize, q: usize) -> u16
+    requires { ⌜ (length (now w) ≡ 20480) × (m < 64) × (k < 3) × (q < 16) ⌝ }
+    ensures { λ r. ⌜ r ≡ getD (now (w .entry)) (6867 + m * 187 + 138 + (k * 16 + q)) 0 ⌝ }
+{
+    w[MESSAGES + m * MESSAGE + FLIGHT + (k * 16 + q)]
+}
+
+// Stores them.
+pub fn set_letters(w: &mut [u16], m: usize, k: usize, q: usize, to: u16)
+    requires { ⌜ (length (now w) ≡ 20480) × (m < 64) × (k < 3) × (q < 16) ⌝ }
+    ensures { λ _. ⌜ (length (now (w .exit)) ≡ 20480) × (now (w .exit) ≡ set (now (w .entry)) (6867 + m * 187 + 138 + (k * 16 + q)) to) ⌝ }
+{
+    w[MESSAGES + m * MESSAGE + FLIGHT + (k * 16 + q)] = to;
 }
 
 // Sets every word to zero.

@@ -1,5 +1,6 @@
 -- One causal delivery, through the process's record. Assumes nothing.
 use mathlib.Core.Path.{_≡_, refl, sym, ap, ap₂, _∙_}
+use mathlib.Core.Bool.{true}
 use mathlib.Core.List.{List, []}
 use Prim.Native.Nat.{ℕ, _+_, _*_, _/_, _%_, _<_, max}
 use native.Mathlib.Omega.{arith}
@@ -10,9 +11,10 @@ use lib.ListN.{length, take, drop, getD, set}
 use lib.Seq.{drop-drop, getD-set-same, getD-set-other}
 use Rattle.base.specs.Tabulate.{tabulate, length-tabulate, getD-tabulate, is-tabulate}
 use Rattle.base.specs.Tests.{pick}
-use Rattle.world.specs.Layout.{put-same, put-other, encode-ext, part-encode, reads-cell, set-encode}
+use Rattle.world.specs.Layout.{put-same, put-other, encode-ext, part-encode, reads-cell}
 use Rattle.world.specs.Machine.{merge, with-tables, causal-one}
-use Rattle.world.specs.World.{rule, order, view, Cell, size, count, group, trust, counter, sequence, next, delivered, up, fifo-length, causal-length, held, marks, fifo, causal, sender, mask, stamp, number, flight, unused, Within, addr, State, put, encode, Reads, Changes}
+use Rattle.world.specs.World.{rule, order, view, Cell, size, count, group, trust, counter, sequence, next, delivered, up, fifo-length, causal-length, held, marks, fifo, causal, sender, mask, stamp, number, flight, unused, Within, State, put, encode, Reads, Changes}
+use Rattle.logs.specs.Pushed.{pushed}
 use Rattle.records.specs.declared.Process.{Process}
 use Rattle.records.specs.Record.{record-of, with-record, with-delivery, pick-to, pick-both}
 use Rattle.tables.specs.Table.{table-at, max-table, concat}
@@ -40,7 +42,7 @@ record-after s p m q x =
     with-delivery (record-of s p) c q x
 
 abbrev pub logged : State → ℕ → ℕ → State
-logged s p m = put (put s (causal p (s (causal-length p))) m) (causal-length p) (s (causal-length p) + 1)
+logged s p m = pushed s p true m
 
 module _ (s : State) (p m q x : ℕ) (hq : q < 16) where
   counters-at : (g r : ℕ) → g < 8 → r < 16
@@ -145,26 +147,15 @@ record-law w p m q {r} {r′} {t} {cs} {x} {g} hp hm hq hg er et eg ex ec e s h 
     ∙ ap₂ (λ (y : List (List ℕ)) (v : ℕ). with-delivery (record-of s p)
     (concat (max-table (table-at 8 16 (record-of s p .counters)) y)) q v) t1 x1
 
-pub causal-one-law : (w u : List ℕ) (p i m n q : ℕ) (after : Process) → Bounds (view w) → p < 16 → i < 64
-    → view w (causal-length p) < 64
-    → m ≡ view w (fifo p i) → n ≡ view w (causal-length p) → q ≡ view w (sender m)
+pub causal-one-law : (w v u : List ℕ) (p i m q : ℕ) (after : Process) → Bounds (view w) → p < 16 → i < 64
+    → m ≡ view w (fifo p i) → q ≡ view w (sender m)
     → Reads w after (λ s. record-after s p m q (s (stamp m (s (group p)) q)))
-    → Changes (set (set w (addr (causal p n)) m) (addr (causal-length p)) (n + 1)) u
-    (λ s. with-record s p after)
+    → Changes w v (λ s. pushed s p true m) → Changes v u (λ s. with-record s p after)
     → Changes w u (λ s. causal-one s p i)
-causal-one-law w u p i m n q after bounds hp hi room em en eq er ch s e =
+causal-one-law w v u p i m q after bounds hp hi em eq er c1 c2 s e =
     let hm : m < 64 = omega (arith, em, bounds .logged p i hp hi) in
     let hq : q < 16 = omega (arith, eq, bounds .senders m hm) in
     let m1 = em ∙ reads-cell w (fifo p i) (omega arith) s e in
-    let n1 = en ∙ reads-cell w (causal-length p) (omega arith) s e in
     let q1 = eq ∙ reads-cell w (sender m) (omega arith) s e in
-    let w1 : set w (addr (causal p n)) m ≡ encode (put s (causal p n) m) = rw e
-    (set-encode s (causal p n) m (omega (arith, en))) in
-    let w2 : set (set w (addr (causal p n)) m) (addr (causal-length p)) (n + 1) ≡ encode
-    (put (put s (causal p n) m) (causal-length p) (n + 1)) =
-    ap (λ (x : List ℕ). set x (addr (causal-length p)) (n + 1)) w1
-    ∙ set-encode (put s (causal p n) m) (causal-length p) (n + 1) (omega arith) in
-    ch (put (put s (causal p n) m) (causal-length p) (n + 1)) w2
-    ∙ ap₂ (λ (k : ℕ) (r : Process). encode
-    (with-record (put (put s (causal p k) m) (causal-length p) (k + 1)) p r)) n1 (er s e)
+    c2 (logged s p m) (c1 s e) ∙ ap (λ (r : Process). encode (with-record (logged s p m) p r)) (er s e)
     ∙ one-law s p i m q hq m1 q1

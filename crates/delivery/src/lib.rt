@@ -27,13 +27,8 @@ pub fn causal_one(w: &mut [u16], p: usize, i: usize)
     ensures { λ _. ⌜ (length (now (w .exit)) ≡ 20480) × Changes (now (w .entry)) (now (w .exit)) (λ s. causal-one s p i) ⌝ }
 {
     let m = cells::word(w, cells::PROCESSES + p * cells::PROCESS + cells::FIFO + i);
-    let n = cells::word(
-        w,
-        cells::PROCESSES + p * cells::PROCESS + cells::CAUSAL_LENGTH,
-    );
     let q = cells::word(w, cells::MESSAGES + m * cells::MESSAGE);
     let after = record_after(w, p, m, q);
-    w[cells::PROCESSES + p * cells::PROCESS + cells::CAUSAL + n] = m as u16;
-    w[cells::PROCESSES + p * cells::PROCESS + cells::CAUSAL_LENGTH] = (n + 1) as u16;
+    logs::push(w, p, true, m);
     records::store(w, p, after);
 }

@@ -53,7 +53,7 @@ fn receivers(w: &[u16], up: u16, m: usize, k: usize, q: usize) -> u16
     if !masks::test(up, q) {
         return 0;
     }
-    w[cells::MESSAGES + m * cells::MESSAGE + cells::FLIGHT + (k * 16 + q)] & up
+    cells::letters(w, m, k, q) & up
 }
 
 // A place in the search for the lowest letter: a message, a kind, an origin.
@@ -100,7 +100,7 @@ fn lowest_ok(w: &[u16], up: u16, p: usize, m: usize) -> usize
 {
     let mut x: usize = 0;
     while x < m {
-        if w[cells::MESSAGES + x * cells::MESSAGE + cells::FLIGHT + (2 * 16 + p)] & up != 0 {
+        if cells::letters(w, x, 2, p) & up != 0 {
             return x;
         }
         x += 1;

@@ -1,19 +1,36 @@
-// The logs of a world: where each stands among its words, and how long it is.
+// The logs of a world: where each stands among its words, how long it is, and a message appended.
 ghost use mathlib.Core.Path.{_≡_};
 ghost use Prim.Native.Nat.{_<_};
 ghost use lib.ListN.{length};
-ghost use Rattle.world.specs.World.{view};
+ghost use Rattle.base.specs.Tests.{pick};
+ghost use Rattle.world.specs.World.{addr, view, Changes};
 ghost use Rattle.world.specs.Words.{log-length, log-start};
+ghost use Rattle.logs.specs.Pushed.{length-cell, pushed};
+
+// What holds for the FIFO or for the causal log: one of two offsets in a process's block.
+fn offset(causal: bool, of_fifo: usize, of_causal: usize) -> usize
+    requires { ⌜ («of_fifo» < 429) × («of_causal» < 429) ⌝ }
+    ensures { λ r. ⌜ (r ≡ pick causal «of_causal» «of_fifo») × (r < 429) ⌝ }
+{
+    if causal { of_causal } else { of_fifo }
+}
 
 // Where the FIFO or the causal log of process p begins.
 pub fn start(p: usize, causal: bool) -> usize
     requires { ⌜ p < 16 ⌝ }
     ensures { λ r. ⌜ r ≡ log-start p causal ⌝ }
 {
-    if causal {
-        return cells::PROCESSES + p * cells::PROCESS + cells::CAUSAL;
-    }
-    cells::PROCESSES + p * cells::PROCESS + cells::FIFO
+    let i = offset(causal, cells::FIFO, cells::CAUSAL);
+    cells::PROCESSES + p * cells::PROCESS + i
+}
+
+// Where its length stands.
+fn length_at(p: usize, causal: bool) -> usize
+    requires { ⌜ p < 16 ⌝ }
+    ensures { λ r. ⌜ r ≡ addr (length-cell p causal) ⌝ }
+{
+    let i = offset(causal, cells::FIFO_LENGTH, cells::CAUSAL_LENGTH);
+    cells::PROCESSES + p * cells::PROCESS + i
 }
 
 // How many items it has.
@@ -21,14 +38,17 @@ pub fn items(w: &[u16], p: usize, causal: bool) -> usize
     requires { ⌜ (length (now w) ≡ 20480) × (p < 16) ⌝ }
     ensures { λ r. ⌜ r ≡ log-length (view (now (w .entry))) p causal ⌝ }
 {
-    if causal {
-        return cells::word(
-            w,
-            cells::PROCESSES + p * cells::PROCESS + cells::CAUSAL_LENGTH,
-        );
-    }
-    cells::word(
-        w,
-        cells::PROCESSES + p * cells::PROCESS + cells::FIFO_LENGTH,
-    )
+    cells::word(w, length_at(p, causal))
+}
+
+// Message m appended to it.
+pub fn push(w: &mut [u16], p: usize, causal: bool, m: usize)
+    requires { ⌜ (length (now w) ≡ 20480) × (p < 16) × (m < 64) × (log-length (view (now w)) p causal < 64) ⌝ }
+    ensures { λ _. ⌜ (length (now (w .exit)) ≡ 20480) × Changes (now (w .entry)) (now (w .exit)) (λ s. pushed s p causal m) ⌝ }
+{
+    let n = items(w, p, causal);
+    let a = start(p, causal);
+    let l = length_at(p, causal);
+    w[a + n] = m as u16;
+    w[l] = (n + 1) as u16;
 }

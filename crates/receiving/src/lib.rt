@@ -14,9 +14,9 @@ pub fn take_out(w: &mut [u16], k: usize, m: usize, q: usize, p: usize)
     requires { ⌜ (length (now w) ≡ 20480) × (k < 3) × (m < 64) × (q < 16) × (p < 16) ⌝ }
     ensures { λ _. ⌜ (length (now (w .exit)) ≡ 20480) × Changes (now (w .entry)) (now (w .exit)) (λ s. leave s k m q p) ⌝ }
 {
-    let x = w[cells::MESSAGES + m * cells::MESSAGE + cells::FLIGHT + (k * 16 + q)];
+    let x = cells::letters(w, m, k, q);
     let y = masks::clear(x, p);
-    w[cells::MESSAGES + m * cells::MESSAGE + cells::FLIGHT + (k * 16 + q)] = y;
+    cells::set_letters(w, m, k, q, y);
 }
 
 // An OK sets the mark of its origin.
@@ -25,9 +25,8 @@ pub fn set_mark(w: &mut [u16], k: usize, m: usize, q: usize, p: usize)
     ensures { λ _. ⌜ (length (now (w .exit)) ≡ 20480) × Changes (now (w .entry)) (now (w .exit)) (λ s. mark s k m q p) ⌝ }
 {
     if k == 2 {
-        let x = w[cells::PROCESSES + p * cells::PROCESS + cells::MARKS + m];
-        let y = masks::set(x, q);
-        w[cells::PROCESSES + p * cells::PROCESS + cells::MARKS + m] = y;
+        let a = cells::PROCESSES + p * cells::PROCESS + cells::MARKS + m;
+        w[a] = masks::set(w[a], q);
     }
 }
 

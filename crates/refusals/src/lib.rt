@@ -94,8 +94,7 @@ fn flies(w: &[u16], k: usize, m: usize, q: usize, p: usize) -> bool
     requires { ⌜ (length (now w) ≡ 20480) × (k < 3) × (m < 64) × (q < 16) × (p < 16) ⌝ }
     ensures { λ r. ⌜ r ≡ in-flight (view (now (w .entry))) k m q p ⌝ }
 {
-    let x = w[cells::MESSAGES + m * cells::MESSAGE + cells::FLIGHT + (k * 16 + q)];
-    masks::test(x, p)
+    masks::test(cells::letters(w, m, k, q), p)
 }
 
 // Whether a trust set names only processes below n.

@@ -100,7 +100,7 @@ pub fn send(w: &mut [u16], p: usize, m: usize, k: usize)
     ensures { λ _. ⌜ (length (now (w .exit)) ≡ 20480) × Changes (now (w .entry)) (now (w .exit)) (λ s. sent s p m k) ⌝ }
 {
     let a = addressees_of(w, m);
-    w[cells::MESSAGES + m * cells::MESSAGE + cells::FLIGHT + (k * 16 + p)] = a;
+    cells::set_letters(w, m, k, p, a);
 }
 
 // Sends the OK for message m of q, if p owes it; whether it did.

@@ -21,8 +21,10 @@ add-word c = search needs
 word-requires : tie.Need-word-requires
 word-requires c κs = search needs
 
-append-requires : tie.Need-append-requires
-append-requires c κs = search needs
+push-requires : tie.Need-push-requires
+push-requires c κs =
+    let b = c .before .before .before .before in
+    (b .pre .0, b .pre .1, b .pre .2, omega (arith, b .pre .4, b .pre .3 .counts))
 
 -- the sender is a process
 q16 : (c : tie.After-word) → c .word .result < 16
@@ -31,17 +33,18 @@ q16 c =
     omega (arith, c .word .ensures, b .pre .3 .senders (b .args .m) (b .pre .2))
 
 -- the states on the way, and their bounds
-state1 : (c : tie.After-append)
+state1 : (c : tie.After-push)
     → let a = c .before .before .before .before .before .args in
-    c .append .last .0 ≡ encode (appended (view (a .w .now)) (a .p) (a .m))
+    c .push .last .0 ≡ encode (appended (view (a .w .now)) (a .p) (a .m))
+unfolding appended
 state1 c =
     let b = c .before .before .before .before .before in
-    c .append .ensures .1 (view (b .args .w .now)) (sym (encode-view (b .args .w .now) (b .pre .0)))
+    c .push .ensures .1 (view (b .args .w .now)) (sym (encode-view (b .args .w .now) (b .pre .0)))
 
-bounds1 : (c : tie.After-append) → Bounds (view (c .append .last .0))
+bounds1 : (c : tie.After-push) → Bounds (view (c .push .last .0))
 bounds1 c =
     let b = c .before .before .before .before .before in
-    bounds-words (c .append .last .0) _ (state1 c)
+    bounds-words (c .push .last .0) _ (state1 c)
     (bounds-appended (view (b .args .w .now)) (b .args .p) (b .args .m) (b .pre .2) (b .pre .4) (b .pre .3))
 
 state2 : (c : tie.After-causal-all)
@@ -61,7 +64,7 @@ bounds3 c =
 causal-all-requires : tie.Need-causal-all-requires
 causal-all-requires c κs =
     let o = c .before .before .before in
-    (o .append .ensures .0, o .before .before .before .before .before .pre .1, bounds1 o)
+    (o .push .ensures .0, o .before .before .before .before .before .pre .1, bounds1 o)
 
 raise-next-requires : tie.Need-raise-next-requires
 raise-next-requires c κs =
@@ -103,11 +106,11 @@ returns c =
     let o1 = o2 .before .before .before .before in
     let b = o1 .before .before .before .before .before in (
       owes-law (b .args .w .now) _ _ _ (b .args .p) (b .args .m) (b .pre .2) (o1 .before .before .word .ensures)
-          (o1 .append .ensures .1) (o2 .causal-all .ensures .1) (o3 .raise-next .ensures .1) (o4 .send-oks .ensures .0),
+          (o1 .push .ensures .1) (o2 .causal-all .ensures .1) (o3 .raise-next .ensures .1) (o4 .send-oks .ensures .0),
       (
         o4 .send-oks .ensures .1 .0,
         fifo-law (b .args .w .now) _ _ _ _ (b .args .p) (b .args .m) (b .pre .2)
-            (o1 .before .before .word .ensures) (o1 .append .ensures .1) (o2 .causal-all .ensures .1)
+            (o1 .before .before .word .ensures) (o1 .push .ensures .1) (o2 .causal-all .ensures .1)
             (o3 .raise-next .ensures .1) (o4 .send-oks .ensures .1 .1),
       ),
     )
@@ -119,7 +122,7 @@ fifo-one-spec =
     mul-word
     add-word
     word-requires
-    append-requires
+    push-requires
     causal-all-requires
     raise-next-requires
     send-oks-requires

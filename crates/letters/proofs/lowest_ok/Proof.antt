@@ -6,6 +6,8 @@ use native.Mathlib.Nat.{sub-zero}
 use native.Mathlib.Omega.{arith}
 use borrow.Author.Needs.{needs}
 use borrow.Author.Tests.{eq-eqb, ne-eqb}
+use lib.Bits.{bitAnd}
+use lib.Dec.{eqb}
 use Rattle.base.specs.Search.{first-from, first-skip, first-hit, first-end}
 use Rattle.world.specs.World.{view}
 use Rattle.letters.specs.Places.{sends-ok}
@@ -20,38 +22,22 @@ abbrev μ-loop : tie.MeasureT-loop
 μ-loop w up p m x₀ x = m - x
 
 loop-holds : tie.Need-loop-holds Inv-loop μ-loop
-loop-holds c = (omega arith, rw (sub-zero (c .args .m)))
+loop-holds c = (omega arith, rw (sub-zero (c .before .args .m)))
 
-mul-if1 : tie.Need-mul-if1 Inv-loop μ-loop
-mul-if1 c = search needs
+-- the test of the letters that were read
+read : (up : ℕ) {x y : ℕ} → x ≡ y → eqb (bitAnd y up) 0 ≡ eqb (bitAnd x up) 0
+read up e = ap (λ (z : ℕ). eqb (bitAnd z up) 0) (sym e)
 
-add-if1 : tie.Need-add-if1 Inv-loop μ-loop
-add-if1 c = search needs
-
-add-if1-2 : tie.Need-add-if1-2 Inv-loop μ-loop
-add-if1-2 c = search needs
-
-mul-if1-2 : tie.Need-mul-if1-2 Inv-loop μ-loop
-mul-if1-2 c = search needs
-
-add-if1-3 : tie.Need-add-if1-3 Inv-loop μ-loop
-add-if1-3 c = search needs
-
-add-if1-4 : tie.Need-add-if1-4 Inv-loop μ-loop
-add-if1-4 c = search needs
-
-mul-if1-3 : tie.Need-mul-if1-3 Inv-loop μ-loop
-mul-if1-3 c = search needs
-
-shared-slice-read-if1 : tie.Need-shared-slice-read-if1 Inv-loop μ-loop
-shared-slice-read-if1 c = search needs
+letters-requires : tie.Need-letters-requires Inv-loop μ-loop
+letters-requires c κs = search needs
 
 returns : tie.Need-returns Inv-loop μ-loop
 returns c =
     let l = c .before .before .before in
-    let a = l .before .args in
+    let a = l .before .before .args in
     let f : ℕ → Bool = sends-ok (view (a .w .now)) (a .up) (a .p) in
-    sym (l .loop .inv .1 ∙ first-hit f (a .m) (l .loop .x) (omega arith) (ap not (ne-eqb _ 0 (c .if1 .taken))))
+    sym (l .loop .inv .1 ∙ first-hit f (a .m) (l .loop .x) (omega arith)
+    (ap not (read (a .up) (c .before .letters .ensures) ∙ ne-eqb _ 0 (c .if1 .taken))))
 
 add-x : tie.Need-add-x Inv-loop μ-loop
 add-x c = omega arith
@@ -62,16 +48,17 @@ loop-less c = omega arith
 loop-again : tie.Need-loop-again Inv-loop μ-loop
 loop-again c =
     let l = c .before .before .before in
-    let a = l .before .args in
+    let a = l .before .before .args in
     let f : ℕ → Bool = sends-ok (view (a .w .now)) (a .up) (a .p) in (
       omega arith,
-      l .loop .inv .1 ∙ first-skip f (a .m) (l .loop .x) (omega arith) (ap not (eq-eqb _ 0 (c .if1 .left))),
+      l .loop .inv .1 ∙ first-skip f (a .m) (l .loop .x) (omega arith)
+          (ap not (read (a .up) (c .before .letters .ensures) ∙ eq-eqb _ 0 (c .if1 .left))),
     )
 
 returns-2 : tie.Need-returns-2 Inv-loop μ-loop
 returns-2 c =
     let l = c .before in
-    let a = l .before .args in
+    let a = l .before .before .args in
     let f : ℕ → Bool = sends-ok (view (a .w .now)) (a .up) (a .p) in
     sym (l .loop .inv .1 ∙ first-end f (a .m) (l .loop .x) (omega arith))
 
@@ -82,14 +69,7 @@ lowest-ok-spec =
     Inv-loop
     μ-loop
     loop-holds
-    mul-if1
-    add-if1
-    add-if1-2
-    mul-if1-2
-    add-if1-3
-    add-if1-4
-    mul-if1-3
-    shared-slice-read-if1
+    letters-requires
     returns
     add-x
     loop-less

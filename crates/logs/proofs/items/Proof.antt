@@ -1,49 +1,23 @@
 -- `logs::items` meets its contract: the length of the log that is picked. Assumes nothing.
+use native.Mathlib.Omega.{arith}
 use borrow.Author.Needs.{needs}
+use Rattle.logs.specs.Pushed.{log-low, length-read}
 use Rattle.logs.proofs.items.Statement.{statement}
 use Rattle.logs.proofs.items.Tie as tie
 
-mul-word : tie.Need-mul-word
-mul-word c = search needs
-
-add-word : tie.Need-add-word
-add-word c = search needs
-
-add-word-2 : tie.Need-add-word-2
-add-word-2 c = search needs
+length-at-requires : tie.Need-length-at-requires
+length-at-requires c κs = search needs
 
 word-requires : tie.Need-word-requires
-word-requires c κs = search needs
+word-requires c κs =
+    let b = c .before .before in
+    omega (arith, c .length-at .ensures, b .pre .0, log-low (b .args .p) (b .args .causal) (b .pre .1))
 
 returns : tie.Need-returns
-returns c = rw (c .before .if1 .taken) (c .word .ensures)
-
-mul-word-2 : tie.Need-mul-word-2
-mul-word-2 c = search needs
-
-add-word-3 : tie.Need-add-word-3
-add-word-3 c = search needs
-
-add-word-4 : tie.Need-add-word-4
-add-word-4 c = search needs
-
-word-requires-2 : tie.Need-word-requires-2
-word-requires-2 c κs = search needs
-
-returns-2 : tie.Need-returns-2
-returns-2 c = rw (c .before .if1 .left) (c .word2 .ensures)
+returns c =
+    let l = c .before in
+    let a = l .before .before .args in
+    length-read (a .p) (a .causal) (a .w .now) (l .length-at .ensures) (c .word .ensures)
 
 pub items-spec : {M : Type 1} → statement M
-items-spec =
-    tie.close
-    (tie.spec
-    mul-word
-    add-word
-    add-word-2
-    word-requires
-    returns
-    mul-word-2
-    add-word-3
-    add-word-4
-    word-requires-2
-    returns-2)
+items-spec = tie.close (tie.spec length-at-requires word-requires returns)

@@ -1,8 +1,12 @@
 -- `logs::start` meets its contract: the place of the first item. Assumes nothing.
-use native.Mathlib.Omega.{arith}
+use mathlib.Core.Path.{refl}
 use borrow.Author.Needs.{needs}
+use Rattle.logs.specs.Pushed.{start-is}
 use Rattle.logs.proofs.start.Statement.{statement}
 use Rattle.logs.proofs.start.Tie as tie
+
+offset-requires : tie.Need-offset-requires
+offset-requires c = search needs
 
 mul-result : tie.Need-mul-result
 mul-result c = search needs
@@ -14,29 +18,7 @@ add-result-2 : tie.Need-add-result-2
 add-result-2 c = search needs
 
 returns : tie.Need-returns
-returns c = rw (c .if1 .taken) (omega arith)
-
-mul-result-2 : tie.Need-mul-result-2
-mul-result-2 c = search needs
-
-add-result-3 : tie.Need-add-result-3
-add-result-3 c = search needs
-
-add-result-4 : tie.Need-add-result-4
-add-result-4 c = search needs
-
-returns-2 : tie.Need-returns-2
-returns-2 c = rw (c .if1 .left) (omega arith)
+returns c = start-is (c .before .args .p) (c .before .args .causal) (c .offset .ensures .0) refl
 
 pub start-spec : {M : Type 1} → statement M
-start-spec =
-    tie.close
-    (tie.spec
-    mul-result
-    add-result
-    add-result-2
-    returns
-    mul-result-2
-    add-result-3
-    add-result-4
-    returns-2)
+start-spec = tie.close (tie.spec offset-requires mul-result add-result add-result-2 returns)

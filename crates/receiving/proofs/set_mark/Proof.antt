@@ -6,41 +6,29 @@ use Rattle.receiving.specs.Receiving.{mark-law, mark-none}
 use Rattle.receiving.proofs.set_mark.Statement.{statement}
 use Rattle.receiving.proofs.set_mark.Tie as tie
 
-mul-x : tie.Need-mul-x
-mul-x c = search needs
+mul-a : tie.Need-mul-a
+mul-a c = search needs
 
-add-x : tie.Need-add-x
-add-x c = search needs
+add-a : tie.Need-add-a
+add-a c = search needs
 
-add-x-2 : tie.Need-add-x-2
-add-x-2 c = search needs
+add-a-2 : tie.Need-add-a-2
+add-a-2 c = search needs
 
-add-x-3 : tie.Need-add-x-3
-add-x-3 c = search needs
+add-a-3 : tie.Need-add-a-3
+add-a-3 c = search needs
 
-mul-x-2 : tie.Need-mul-x-2
-mul-x-2 c = search needs
+mul-set : tie.Need-mul-set
+mul-set c = search needs
 
-slice-read-x : tie.Need-slice-read-x
-slice-read-x c = search needs
+slice-read-set : tie.Need-slice-read-set
+slice-read-set c = search needs
 
 set-requires : tie.Need-set-requires
 set-requires c κs = search needs
 
 mul-w : tie.Need-mul-w
 mul-w c = search needs
-
-add-w : tie.Need-add-w
-add-w c = search needs
-
-add-w-2 : tie.Need-add-w-2
-add-w-2 c = search needs
-
-add-w-3 : tie.Need-add-w-3
-add-w-3 c = search needs
-
-mul-w-2 : tie.Need-mul-w-2
-mul-w-2 c = search needs
 
 slice-write-w : tie.Need-slice-write-w
 slice-write-w c = search needs
@@ -67,18 +55,14 @@ pub set-mark-spec : {M : Type 1} → statement M
 set-mark-spec =
     tie.close
     (tie.spec
-    mul-x
-    add-x
-    add-x-2
-    add-x-3
-    mul-x-2
-    slice-read-x
+    mul-a
+    add-a
+    add-a-2
+    add-a-3
+    mul-set
+    slice-read-set
     set-requires
     mul-w
-    add-w
-    add-w-2
-    add-w-3
-    mul-w-2
     slice-write-w
     same-length
     returns
