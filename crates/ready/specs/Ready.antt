@@ -5,10 +5,10 @@ use mathlib.Core.List.{List}
 use Prim.Native.Nat.{ℕ, _≤_, _<_}
 use native.Mathlib.Omega.{arith}
 use lib.Bits.{bitAnd, bitXor}
-use lib.Dec.{eqb}
-use borrow.Author.Tests.{eqb-true, eq-eqb, ne-eqb, not-true}
+use lib.Dec.{ltb, eqb}
+use borrow.Author.Tests.{lt-ltb, le-ltb, ltb-true, eqb-true, eq-eqb, ne-eqb, not-true}
 use mathlib.Core.Logic.{_⊎_, inl, inr}
-use Rattle.base.specs.Tests.{bool-cases, same, both, either}
+use Rattle.base.specs.Tests.{bool-cases, same, both, both-l, both-r, either}
 use Rattle.base.specs.Bits.{bit, differs, bit-and, bit-xor, bit-mask-of, bit-mask-of-above}
 use Rattle.base.specs.Search.{every, every-true, every-intro, every-fails, every-cong, first-from, first-law, first-cong}
 use Rattle.base.specs.Count.{tally, tally-past, tally-zero, tally-cong, tally-pos, absent}
@@ -94,9 +94,10 @@ fourth false = refl
 abbrev pub trusted-unmarked : State → ℕ → ℕ → ℕ
 trusted-unmarked s p m = bitAnd (s (trust p)) (bitXor (s (trust p)) (s (marks p m)))
 
--- what the answer "the lowest of these is an addressee" says: if so, a mark is missing
-abbrev pub Waits : State → ℕ → ℕ → Bool → Type 0
-Waits s p m r = r ≡ true → every (s size) (marked s p m) ≡ false
+-- whether the lowest of these is an addressee
+abbrev pub waits-lowest : State → ℕ → ℕ → Bool
+waits-lowest s p m =
+    let q = first-from 16 0 (bit (trusted-unmarked s p m)) in both (ltb q (s size)) (addressed s m q)
 
 -- q is a trusted addressee of m of which p has no mark
 abbrev pub unmarked : State → ℕ → ℕ → ℕ → Bool
@@ -118,14 +119,32 @@ module _ (s : State) (p m : ℕ) where
       turned true false false = refl
       turned false k a = refl
 
-  pub waits-lowest : {x q n : ℕ} {r : Bool} → x ≡ trusted-unmarked s p m → q ≡ first-from 16 0 (bit x) → n ≡ s size
-      → n ≤ 16 → q < n → r ≡ addressed s m q → Waits s p m r
-  waits-lowest {x} {q} ex eq en h l er e =
-      every-fails (s size) (marked s p m) q (omega (arith, en))
-      (not-true (marked s p m q) (sym (unmarked-bits q) ∙ ap₂ both (ap (λ (y : ℕ). bit y q) (sym ex) ∙ hit) (sym er ∙ e)))
+  -- the lowest of them, as the code looks at it
+  module _ {x q n : ℕ} (ex : x ≡ trusted-unmarked s p m) (eq : q ≡ first-from 16 0 (bit x)) (en : n ≡ s size) where
+    at : both (ltb q (s size)) (addressed s m q) ≡ waits-lowest s p m
+    at =
+        ap (λ (z : ℕ). both (ltb z (s size)) (addressed s m z))
+        (eq ∙ ap (λ (y : ℕ). first-from 16 0 (bit y)) ex)
+
+    pub waits-yes : {r : Bool} → q < n → r ≡ addressed s m q → r ≡ waits-lowest s p m
+    waits-yes l er =
+        er ∙ sym (ap (λ (b : Bool). both b (addressed s m q)) (lt-ltb q (s size) (omega (arith, en)))) ∙ at
+
+    pub waits-no : n ≤ q → false ≡ waits-lowest s p m
+    waits-no l = sym (ap (λ (b : Bool). both b (addressed s m q)) (le-ltb q (s size) (omega (arith, en)))) ∙ at
+
+  -- if it is an addressee, a mark is missing
+  pub waits-lacks : s size ≤ 16 → waits-lowest s p m ≡ true → every (s size) (marked s p m) ≡ false
+  waits-lacks h e =
+      let l = ltb-true q (s size) (both-l (ltb q (s size)) (addressed s m q) e) in
+      every-fails (s size) (marked s p m) q l
+      (not-true (marked s p m q)
+      (sym (unmarked-bits q)
+      ∙ ap₂ both (first-law 16 0 (bit (trusted-unmarked s p m)) .hit (omega arith))
+      (both-r (ltb q (s size)) (addressed s m q) e)))
     where
-      hit : bit x q ≡ true
-      hit = ap (bit x) eq ∙ first-law 16 0 (bit x) .hit (omega (arith, eq))
+      q : ℕ
+      q = first-from 16 0 (bit (trusted-unmarked s p m))
 
   -- the addressees among them are counted
   pub missing-count : {x a r : ℕ} → s size ≤ 16 → x ≡ trusted-unmarked s p m → a ≡ bitAnd x (addressees s m)

@@ -8,7 +8,7 @@ ghost use Rattle.base.specs.Count.{tally};
 ghost use Rattle.world.specs.World.{size, count, held, view, Reads};
 ghost use Rattle.world.specs.Machine.{marked, ready};
 ghost use Rattle.bounds.specs.Bounds.{Bounds};
-ghost use Rattle.ready.specs.Ready.{trusted-unmarked, Waits, unmarked, cleared, searched};
+ghost use Rattle.ready.specs.Ready.{trusted-unmarked, waits-lowest, unmarked, cleared, searched};
 
 // The processes that p trusts and has no mark of for message m.
 fn without_mark(w: &[u16], p: usize, m: usize) -> u16
@@ -23,7 +23,7 @@ fn without_mark(w: &[u16], p: usize, m: usize) -> u16
 // Whether the lowest of them is an addressee. If so, p waits for its mark.
 fn waits_for_lowest(w: &[u16], p: usize, m: usize) -> bool
     requires { ⌜ (length (now w) ≡ 20480) × (p < 16) × (m < 64) × Bounds (view (now w)) ⌝ }
-    ensures { λ r. ⌜ Waits (view (now (w .entry))) p m r ⌝ }
+    ensures { λ r. ⌜ r ≡ waits-lowest (view (now (w .entry))) p m ⌝ }
 {
     let q = masks::lowest(without_mark(w, p, m)) as usize;
     if q < cells::word(w, cells::SIZE) {

@@ -1,8 +1,8 @@
 -- `ready::marked_all` meets its contract. Assumes nothing.
-use mathlib.Core.Path.{sym}
+use mathlib.Core.Path.{sym, _∙_}
 use borrow.Author.Needs.{needs}
 use Rattle.world.specs.World.{view}
-use Rattle.ready.specs.Ready.{none-missing}
+use Rattle.ready.specs.Ready.{waits-lacks, none-missing}
 use Rattle.ready.proofs.marked_all.Statement.{statement}
 use Rattle.ready.proofs.marked_all.Tie as tie
 
@@ -10,7 +10,11 @@ waits-for-lowest-requires : tie.Need-waits-for-lowest-requires
 waits-for-lowest-requires c κs = search needs
 
 returns : tie.Need-returns
-returns c = sym (c .before .waits-for-lowest .ensures (c .if1 .taken))
+returns c =
+    let b = c .before .before .before in
+    let a = b .args in
+    sym (waits-lacks (view (a .w .now)) (a .p) (a .m) (b .pre .3 .sizes)
+    (sym (c .before .waits-for-lowest .ensures) ∙ c .if1 .taken))
 
 missing-requires : tie.Need-missing-requires
 missing-requires c κs = search needs

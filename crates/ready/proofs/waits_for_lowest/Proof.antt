@@ -1,10 +1,8 @@
 -- `ready::waits_for_lowest` meets its contract. Assumes nothing.
-use mathlib.Core.Path.{refl}
 use borrow.Author.Needs.{needs}
 use native.Mathlib.Omega.{arith}
-use Rattle.base.specs.Tests.{clash}
 use Rattle.world.specs.World.{view}
-use Rattle.ready.specs.Ready.{waits-lowest}
+use Rattle.ready.specs.Ready.{waits-yes, waits-no}
 use Rattle.ready.proofs.waits_for_lowest.Statement.{statement}
 use Rattle.ready.proofs.waits_for_lowest.Tie as tie
 
@@ -31,14 +29,18 @@ returns c =
     let n = c .before .before in
     let q = n .before in
     let t = q .before in
-    let b = t .before .before in
-    let a = b .args in
-    let s = b .pre .3 .sizes in
-    waits-lowest (view (a .w .now)) (a .p) (a .m) (t .without-mark .ensures) (q .lowest .ensures) (n .word .ensures)
-    (omega (arith, n .word .ensures, s)) (c .before .if1 .taken) (c .is-addressed .ensures)
+    let a = t .before .before .args in
+    waits-yes (view (a .w .now)) (a .p) (a .m) (t .without-mark .ensures) (q .lowest .ensures) (n .word .ensures)
+    (c .before .if1 .taken) (c .is-addressed .ensures)
 
 returns-2 : tie.Need-returns-2
-returns-2 c e = clash e refl
+returns-2 c =
+    let n = c .before in
+    let q = n .before in
+    let t = q .before in
+    let a = t .before .before .args in
+    waits-no (view (a .w .now)) (a .p) (a .m) (t .without-mark .ensures) (q .lowest .ensures) (n .word .ensures)
+    (omega (arith, c .if1 .left))
 
 pub waits-for-lowest-spec : {M : Type 1} → statement M
 waits-for-lowest-spec =
