@@ -12,14 +12,14 @@ use native.Mathlib.Omega.{arith}
 use native.Mathlib.Decide.{ℕ-discrete}
 use lib.Dec.{eqb}
 use borrow.Author.Tests.{eqb-true, eq-eqb}
-use Rattle.base.specs.Tests.{pick, bool-cases, clash, strong, pick-yes, both, both-i, eqb-refl}
-use Rattle.base.specs.Count.{tally, tally-cong, in-at}
-use Rattle.base.specs.Bits.{bit}
-use Rattle.world.specs.World.{size, count, group, up, next, marks, sender, mask, stamp, number, flight, State}
+use Rattle.definitions.specs.General.{pick, tally, in-at, bit}
+use Rattle.base.specs.Tests.{bool-cases, clash, strong, pick-yes, both, both-i, eqb-refl}
+use Rattle.base.specs.Count.{tally-cong}
+use Rattle.definitions.specs.World.{size, count, group, up, next, marks, sender, mask, stamp, number, flight, State}
 use Rattle.world.specs.SoundLaws.{next-is}
-use Rattle.world.specs.Machine.{addressed}
-use Rattle.world.specs.Steps.{is-up}
-use Rattle.world.specs.History.{Run, Fair}
+use Rattle.definitions.specs.Machine.{addressed}
+use Rattle.definitions.specs.Steps.{is-up}
+use Rattle.definitions.specs.History.{Run, Fair}
 use Rattle.effects.specs.Views.{Messages, messages, place}
 use Rattle.order.specs.Knowledge.{Knowledge, knowledge}
 use Rattle.order.specs.Counters.{To, of-to, of, to, both-less, Counting, sender-before, stamp-lt}

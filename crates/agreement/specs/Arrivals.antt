@@ -10,17 +10,14 @@ use Prim.Native.Nat.{ℕ, _+_, _≤_, _<_}
 use native.Mathlib.Omega.{arith}
 use lib.Dec.{eqb}
 use borrow.Author.Tests.{eqb-false, ltb-true}
-use Rattle.base.specs.Tests.{pick}
-use Rattle.base.specs.Count.{In, in-at}
-use Rattle.base.specs.Bits.{bit, with, with-old, with-hit, with-cases, bit-mask-of}
-use Rattle.world.specs.World.{size, count, group, trust, up, fifo-length, next, held, marks, fifo, sender, mask, stamp, number, flight, State, put}
+use Rattle.definitions.specs.General.{pick, In, in-at, bit, with}
+use Rattle.base.specs.Bits.{with-old, with-hit, with-cases, bit-mask-of}
+use Rattle.definitions.specs.World.{size, count, group, trust, up, fifo-length, next, held, marks, fifo, sender, mask, stamp, number, flight, State, put}
 use Rattle.world.specs.Layout.{put-same, put-at}
-use Rattle.world.specs.Sound.{Sound}
-use Rattle.world.specs.SoundLaws.{size-high, letter-facts, held-facts, mark-facts, sender-low, fifo-addressed}
-use Rattle.world.specs.Machine.{with-tables, addressed, addressees, in-turn, raised, stamped, numbered, multicast, leave, mark, received}
-use Rattle.world.specs.Machine.{posted as post}
+use Rattle.world.specs.SoundLaws.{Sound, size-high, letter-facts, held-facts, mark-facts, sender-low, fifo-addressed}
+use Rattle.definitions.specs.Machine.{with-tables, addressed, addressees, in-turn, raised, stamped, numbered, multicast, leave, mark, received, posted as post}
 use Rattle.world.specs.StepLaws.{InFlight}
-use Rattle.world.specs.History.{Event}
+use Rattle.definitions.specs.History.{Event}
 use Rattle.world.specs.Kept.{mark-cases, hold-cases}
 use Rattle.effects.specs.Views.{messages, Process, process, Ground}
 use Rattle.effects.specs.Arrival.{Held, Fly, put-letter, leave-cases, marked-held, marked-flight, mark-process, mark-ground, received-process, received-ground, received-held}

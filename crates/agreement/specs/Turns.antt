@@ -13,14 +13,13 @@ use borrow.Author.Tests.{eq-eqb, not-true}
 use Rattle.base.specs.Tests.{le-or-lt, clash, both, both-l, both-r, both-i, either, either-e, at-or-off}
 use Rattle.base.specs.Loop.{loop-keeps}
 use Rattle.base.specs.Search.{every-true, every-false}
-use Rattle.base.specs.Count.{In, in-at, in-dec, out-absent}
-use Rattle.base.specs.Bits.{bit}
-use Rattle.world.specs.World.{size, count, group, trust, up, fifo-length, next, held, marks, fifo, sender, mask, number, State}
-use Rattle.world.specs.Machine.{addressed, marked, ready, fifo-one, cascade}
-use Rattle.world.specs.History.{Event, Names, names}
+use Rattle.definitions.specs.General.{In, in-at, bit}
+use Rattle.base.specs.Count.{in-dec, out-absent}
+use Rattle.definitions.specs.World.{size, count, group, trust, up, fifo-length, next, held, marks, fifo, sender, mask, number, State}
+use Rattle.definitions.specs.Machine.{addressed, marked, ready, fifo-one, cascade}
+use Rattle.definitions.specs.History.{Event, Names, names}
 use Rattle.world.specs.Fuel.{cascade-quiet}
-use Rattle.effects.specs.Views.{Process, Ground, ground, Still, Place, place-of, place}
-use Rattle.effects.specs.Views.{still as still-view}
+use Rattle.effects.specs.Views.{Process, Ground, ground, Still, Place, place-of, place, still as still-view}
 use Rattle.effects.specs.Cascade.{Near, turn-near, Front, fifo-one-front, next-cases, ok-sent, letter-cases, fifo-one-still, fifo-one-there}
 use Rattle.effects.specs.Holding.{HeldTo}
 use Rattle.effects.specs.Spent.{turn-once}

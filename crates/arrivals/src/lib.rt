@@ -2,8 +2,8 @@
 ghost use mathlib.Core.Path.{_≡_};
 ghost use Prim.Native.Nat.{_<_};
 ghost use lib.ListN.{length};
-ghost use Rattle.world.specs.World.{count, view, encode};
-ghost use Rattle.world.specs.Machine.{arrival};
+ghost use Rattle.definitions.specs.World.{count, view, encode};
+ghost use Rattle.definitions.specs.Machine.{arrival};
 ghost use Rattle.quiescence.specs.Quiescent.{QuiescentIf, MarkOnly};
 ghost use Rattle.bounds.specs.Bounds.{Bounds};
 

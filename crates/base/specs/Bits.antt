@@ -10,28 +10,9 @@ use lib.Dec.{eqb, lit<, eqb·suc-suc}
 use borrow.Author.Tests.{ne-eqb, eq-eqb}
 use native.Mathlib.Decide.{ℕ-discrete}
 use mathlib.Core.Logic.{_⊎_, inl, inr}
-use Rattle.base.specs.Tests.{pick, clash, either-l, either-r, le-or-lt}
-use Rattle.base.specs.Search.{every, every-true, every-intro, every-cong}
-
--- bit p of m
-unfoldable pub bit : ℕ → ℕ → Bool
-bit m p = eqb (m / 2 ^ p % 2) 1
-
--- m with p, and m without p
-unfoldable pub with : ℕ → ℕ → ℕ
-with m p = pick (bit m p) m (m + 2 ^ p)
-
-unfoldable pub without : ℕ → ℕ → ℕ
-without m p = pick (bit m p) (m - 2 ^ p) m
-
--- the mask of the numbers below n that pass
-unfoldable pub mask-of : ℕ → (ℕ → Bool) → ℕ
-mask-of zero f = 0
-mask-of (suc n) f = pick (f n) (with (mask-of n f) n) (mask-of n f)
-
--- of the bits below n, m has only those that pass
-unfoldable pub only : ℕ → ℕ → (ℕ → Bool) → Bool
-only n m f = every n (λ i. not (bit m i) || f i)
+use Rattle.definitions.specs.General.{pick, bit, with, without, mask-of, only}
+use Rattle.base.specs.Tests.{clash, either-l, either-r, le-or-lt}
+use Rattle.base.specs.Search.{every-true, every-intro, every-cong}
 
 -- 1 << p does not lose its bit
 pub one-shl : (p : ℕ) → p < 16 → (1 * 2 ^ p) % 2 ^ 16 ≡ 2 ^ p

@@ -9,14 +9,11 @@ use native.Mathlib.Nat.{not-suc-le-zero}
 use native.Mathlib.Decide.{ℕ-discrete}
 use lib.Dec.{ltb, eqb}
 use borrow.Author.Tests.{ltb-true, ltb-false, eqb-true, eq-eqb, not-true, not-false}
-use Rattle.base.specs.Tests.{bool-cases, clash, both, both-l, both-r, either, either-e, either-l, either-r, pick, pick-le}
-use Rattle.base.specs.Search.{Found, at, none, find, First, first-from, first-law, every, every-true, every-false, every-cong}
+use Rattle.base.specs.Tests.{bool-cases, clash, both, both-l, both-r, either, either-e, either-l, either-r, pick-le}
+use Rattle.definitions.specs.General.{pick, first-from, every, tally, In, in-at, absent}
+use Rattle.base.specs.Search.{Found, at, none, find, First, first-law, every-true, every-false, every-cong}
 
 -- ---- how many of 0, .., n - 1 pass
-unfoldable pub tally : ℕ → (ℕ → Bool) → ℕ
-tally zero f = 0
-tally (suc n) f = pick (f n) (suc (tally n f)) (tally n f)
-
 pub tally-le : (n : ℕ) (f : ℕ → Bool) → tally n f ≤ n
 unfolding tally
 tally-le zero f = omega arith
@@ -130,16 +127,10 @@ last-of (suc n) f = go (f n) refl (last-of n f)
         below-n j k q (no a) = m j (omega arith) q
 
 -- ---- m is one of f 0, .., f (n - 1)
-pub data In (n : ℕ) (f : ℕ → ℕ) (m : ℕ) : Type 0 where
-  in-at : (i : ℕ) → i < n → f i ≡ m → In n f m
-
 pub in-wider : {n k : ℕ} {f : ℕ → ℕ} {m : ℕ} → n ≤ k → In n f m → In k f m
 in-wider h (in-at i l e) = in-at i (omega arith) e
 
 -- ---- m is none of them, as a test
-unfoldable pub absent : ℕ → ℕ → (ℕ → ℕ) → Bool
-absent n m f = every n (λ i. not (eqb (f i) m))
-
 pub absent-in : (n m : ℕ) (f : ℕ → ℕ) → absent n m f ≡ false → In n f m
 unfolding absent
 absent-in n m f e = go (every-false n (λ i. not (eqb (f i) m)) e)

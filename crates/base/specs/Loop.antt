@@ -8,38 +8,39 @@ use native.Mathlib.Omega.{arith}
 use lib.Dec.{ltb}
 use borrow.Author.Tests.{lt-ltb, le-ltb, ltb-true, ltb-false}
 use Rattle.base.specs.Tests.{bool-cases}
-use Rattle.base.specs.Search.{first-from, first-law, first-cong}
+use Rattle.definitions.specs.General.{first-from, chosen, loop}
+use Rattle.base.specs.Search.{first-law, first-cong}
 
 module _ {S : Type 0} (bound : S → ℕ) (test : S → ℕ → Bool) (act : S → ℕ → S) where
-  unfoldable pub chosen : S → ℕ
-  chosen s = first-from (bound s) 0 (test s)
+  -- the loop, and what it takes next
+  abbrev turns : ℕ → S → S
+  turns k s = loop bound test act k s
 
-  unfoldable pub loop : ℕ → S → S
-  loop zero s = s
-  loop (suc k) s = elim (ltb (chosen s) (bound s)) [ true ↦ loop k (act s (chosen s)) | false ↦ s ]
+  abbrev first : S → ℕ
+  first s = chosen bound test act s
 
   -- what is kept by each turn is kept by the loop
   pub loop-keeps : (P : S → Type 0)
       → ((s : S) (m : ℕ) → m < bound s → test s m ≡ true → ((j : ℕ) → j < m → test s j ≡ false) → P s
       → P (act s m))
-      → (k : ℕ) (s : S) → P s → P (loop k s)
+      → (k : ℕ) (s : S) → P s → P (turns k s)
   unfolding loop chosen
   loop-keeps P keep zero s p = p
   loop-keeps P keep (suc k) s p =
-      go (ltb (chosen s) (bound s)) refl (λ q. loop-keeps P keep k (act s (chosen s)) q)
+      go (ltb (first s) (bound s)) refl (λ q. loop-keeps P keep k (act s (first s)) q)
     where
-      go : (b : Bool) → ltb (chosen s) (bound s) ≡ b → (P (act s (chosen s)) → P (loop k (act s (chosen s))))
-          → P (elim b [ true ↦ loop k (act s (chosen s)) | false ↦ s ])
+      go : (b : Bool) → ltb (first s) (bound s) ≡ b → (P (act s (first s)) → P (turns k (act s (first s))))
+          → P (elim b [ true ↦ turns k (act s (first s)) | false ↦ s ])
       go true e ih =
           let r = first-law (bound s) 0 (test s) in
-          let l = ltb-true (chosen s) (bound s) e in
-          ih (keep s (chosen s) l (r .hit (omega arith)) (λ j h. r .miss j (omega arith) h) p)
+          let l = ltb-true (first s) (bound s) e in
+          ih (keep s (first s) l (r .hit (omega arith)) (λ j h. r .miss j (omega arith) h) p)
       go false e ih = p
 
   -- the fuel suffices: with a number that falls at each turn, nothing passes at the end
   pub loop-ends : (size : S → ℕ)
       → ((s : S) (m : ℕ) → m < bound s → test s m ≡ true → size (act s m) < size s)
-      → (k : ℕ) (s : S) → size s ≤ k → (i : ℕ) → i < bound (loop k s) → test (loop k s) i ≡ false
+      → (k : ℕ) (s : S) → size s ≤ k → (i : ℕ) → i < bound (turns k s) → test (turns k s) i ≡ false
   unfolding loop chosen
   loop-ends size falls zero s z i h = go (bool-cases (test s i))
     where
@@ -47,39 +48,39 @@ module _ {S : Type 0} (bound : S → ℕ) (test : S → ℕ → Bool) (act : S �
       go (inl e) = let l = falls s i h e in absurd (omega arith)
       go (inr e) = e
   loop-ends size falls (suc k) s z i h =
-      go (ltb (chosen s) (bound s)) refl (λ q. loop-ends size falls k (act s (chosen s)) q) i h
+      go (ltb (first s) (bound s)) refl (λ q. loop-ends size falls k (act s (first s)) q) i h
     where
       after : Bool → S
-      after b = elim b [ true ↦ loop k (act s (chosen s)) | false ↦ s ]
+      after b = elim b [ true ↦ turns k (act s (first s)) | false ↦ s ]
 
-      go : (b : Bool) → ltb (chosen s) (bound s) ≡ b
-          → (size (act s (chosen s)) ≤ k → (i : ℕ) → i < bound (after true) → test (after true) i ≡ false)
+      go : (b : Bool) → ltb (first s) (bound s) ≡ b
+          → (size (act s (first s)) ≤ k → (i : ℕ) → i < bound (after true) → test (after true) i ≡ false)
           → (i : ℕ) → i < bound (after b) → test (after b) i ≡ false
       go true e ih i h =
           let r = first-law (bound s) 0 (test s) in
-          let l = ltb-true (chosen s) (bound s) e in
-          let d = falls s (chosen s) l (r .hit (omega arith)) in
+          let l = ltb-true (first s) (bound s) e in
+          let d = falls s (first s) l (r .hit (omega arith)) in
           ih (omega arith) i h
       go false e ih i h =
           let r = first-law (bound s) 0 (test s) in
-          let l = ltb-false (chosen s) (bound s) e in
+          let l = ltb-false (first s) (bound s) e in
           r .miss i (omega arith) (omega arith)
 
   -- one turn, and the end, as a loop of the code takes them
-  pub loop-turn : (k : ℕ) (s : S) → chosen s < bound s → loop (suc k) s ≡ loop k (act s (chosen s))
+  pub loop-turn : (k : ℕ) (s : S) → first s < bound s → turns (suc k) s ≡ turns k (act s (first s))
   unfolding loop
   loop-turn k s h =
-      ap (λ (b : Bool). elim b [ true ↦ loop k (act s (chosen s)) | false ↦ s ])
-      (lt-ltb (chosen s) (bound s) h)
+      ap (λ (b : Bool). elim b [ true ↦ turns k (act s (first s)) | false ↦ s ])
+      (lt-ltb (first s) (bound s) h)
 
-  pub loop-stops : (k : ℕ) (s : S) → bound s ≤ chosen s → loop k s ≡ s
+  pub loop-stops : (k : ℕ) (s : S) → bound s ≤ first s → turns k s ≡ s
   unfolding loop
   loop-stops zero s h = refl
   loop-stops (suc k) s h =
-      ap (λ (b : Bool). elim b [ true ↦ loop k (act s (chosen s)) | false ↦ s ])
-      (le-ltb (chosen s) (bound s) h)
+      ap (λ (b : Bool). elim b [ true ↦ turns k (act s (first s)) | false ↦ s ])
+      (le-ltb (first s) (bound s) h)
 
-  pub loop-none : (s : S) → loop 0 s ≡ s
+  pub loop-none : (s : S) → turns 0 s ≡ s
   unfolding loop
   loop-none s = refl
 

@@ -5,15 +5,7 @@ use Prim.Native.Nat.{ℕ, suc}
 use native.Mathlib.Omega.{arith}
 use lib.Dec.{eqb}
 use borrow.Author.Tests.{eqb-true, eqb-false}
-use Rattle.base.specs.Tests.{pick}
-
--- Refusal n where the test fails, else what comes after it.
-abbrev pub needs : ℕ → Bool → ℕ → ℕ
-needs n ok rest = pick ok rest n
-
--- The first refusal, and where there is none the second.
-abbrev pub or-else : ℕ → ℕ → ℕ
-or-else first second = pick (eqb first 0) second first
+use Rattle.definitions.specs.General.{pick, needs, or-else}
 
 -- nothing is refused: the test passed, and nothing is refused after it
 pub needs-none : (n : ℕ) (ok : Bool) (rest : ℕ) → needs (suc n) ok rest ≡ 0 → (ok ≡ true) × (rest ≡ 0)

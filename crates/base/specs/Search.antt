@@ -9,6 +9,7 @@ use native.Mathlib.Numerals.{add-one}
 use native.Mathlib.Nat.{not-suc-le-zero}
 use native.Mathlib.Decide.{ℕ-discrete}
 use borrow.Author.Tests.{not-true, not-false}
+use Rattle.definitions.specs.General.{first-from, every, some}
 use Rattle.base.specs.Tests.{bool-cases, clash}
 
 -- ---- the least below n that passes, or a proof that none does
@@ -33,10 +34,6 @@ find f (suc n) = more (find f n)
             which i h (no q) = l i (omega arith)
 
 -- ---- the first of i, i + 1, .. (k of them) that passes; i + k where none does
-unfoldable pub first-from : ℕ → ℕ → (ℕ → Bool) → ℕ
-first-from zero i f = i
-first-from (suc k) i f = elim (f i) [ true ↦ i | false ↦ first-from k (suc i) f ]
-
 -- what the first is
 pub record First (k i : ℕ) (f : ℕ → Bool) (r : ℕ) : Type 0 where
   pub low : i ≤ r
@@ -105,10 +102,6 @@ first-end f n i h =
     rw k h
 
 -- ---- all of 0, .., n - 1 pass
-unfoldable pub every : ℕ → (ℕ → Bool) → Bool
-every zero f = true
-every (suc n) f = elim (f n) [ true ↦ every n f | false ↦ false ]
-
 pub every-true : (n : ℕ) (f : ℕ → Bool) → every n f ≡ true → (i : ℕ) → i < n → f i ≡ true
 unfolding every
 every-true zero f e i h = absurd (not-suc-le-zero h)
@@ -155,9 +148,6 @@ every-cong (suc n) f g h =
     (every-cong n f g (λ i l. h i (omega arith)))
 
 -- ---- one of 0, .., n - 1 passes
-unfoldable pub some : ℕ → (ℕ → Bool) → Bool
-some n f = not (every n (λ i. not (f i)))
-
 pub some-i : (n : ℕ) (f : ℕ → Bool) (i : ℕ) → i < n → f i ≡ true → some n f ≡ true
 unfolding some
 some-i n f i h e = ap not (every-fails n (λ j. not (f j)) i h (ap not e))

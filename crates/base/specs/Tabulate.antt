@@ -10,14 +10,7 @@ use native.Mathlib.Nat.{add-sub-cancel-left}
 use native.Mathlib.Numerals.{add-one}
 use mathlib.Core.List.{append-assoc}
 use lib.ListN.{List·getD-append}
-
-unfoldable pub tab-from : {A : Type 0} → ℕ → ℕ → (ℕ → A) → List A
-tab-from i zero f = []
-tab-from i (suc n) f = let h = f i in let t = tab-from (suc i) n f in h ∷ t
-
--- f 0, f 1, .., f (n - 1)
-unfoldable pub tabulate : {A : Type 0} → ℕ → (ℕ → A) → List A
-tabulate n f = tab-from 0 n f
+use Rattle.definitions.specs.General.{tab-from, tabulate}
 
 length-tab-from : {A : Type 0} (i n : ℕ) (f : ℕ → A) → length (tab-from i n f) ≡ n
 unfolding tab-from

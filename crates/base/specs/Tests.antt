@@ -9,6 +9,7 @@ use native.Mathlib.Nat.{not-suc-le-zero}
 use native.Mathlib.Decide.{ℕ-discrete}
 use lib.Dec.{leb, eqb}
 use borrow.Author.Tests.{leb-true, leb-false, ne-eqb, eq-eqb}
+use Rattle.definitions.specs.General.{pick}
 
 -- ---- a test passes or fails, and not both
 pub bool-cases : (b : Bool) → (b ≡ true) ⊎ (b ≡ false)
@@ -56,10 +57,6 @@ either-r true b e = refl
 either-r false b e = e
 
 -- ---- a where the test passes, else b
-abbrev pub pick : {A : Type 0} → Bool → A → A → A
-pick true a b = a
-pick false a b = b
-
 pub pick-yes : {A : Type 0} {b : Bool} (x y : A) → b ≡ true → pick b x y ≡ x
 pick-yes x y e = rw e
 

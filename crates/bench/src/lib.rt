@@ -1,6 +1,6 @@
 // What the benchmark calls; the archive that is delivered exports none of it.
 ghost use mathlib.Core.Path.{_≡_};
-ghost use Rattle.world.specs.Words.{needs-world};
+ghost use Rattle.definitions.specs.Words.{needs-world};
 
 // The refusal of words that are no sound world: 1, 2, or 0 for a sound one.
 #[no_mangle]

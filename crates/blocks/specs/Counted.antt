@@ -8,9 +8,11 @@ use native.Mathlib.Omega.{arith}
 use lib.Dec.{leb}
 use lib.ListN.{getD}
 use borrow.Author.Tests.{lt-ltb, le-ltb}
-use Rattle.base.specs.Tests.{both, pick}
-use Rattle.world.specs.World.{Cell, State, count, Within, addr, view}
-use Rattle.world.specs.Sound.{frame, process, present, word, fine}
+use Rattle.base.specs.Tests.{both}
+use Rattle.definitions.specs.General.{pick}
+use Rattle.definitions.specs.World.{Cell, State, count, addr, view}
+use Rattle.world.specs.Layout.{Within}
+use Rattle.definitions.specs.Sound.{frame, process, present, word, fine}
 use Rattle.ranges.specs.Ranges.{within-at}
 use Rattle.ranges.specs.Laws.{every-split}
 use Rattle.limits.specs.Limits.{exists-at, word-limit}

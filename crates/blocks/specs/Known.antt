@@ -5,9 +5,9 @@ use Prim.Native.Nat.{ℕ, _≤_, _<_}
 use native.Mathlib.Omega.{arith}
 use lib.ListN.{length, getD}
 use borrow.Author.Tests.{lt-ltb, ltb-true}
-use Rattle.base.specs.Tests.{pick}
-use Rattle.world.specs.World.{State, size, count, fifo-length, causal-length, sender, view}
-use Rattle.world.specs.Sound.{frame, message, fit, fine}
+use Rattle.definitions.specs.General.{pick}
+use Rattle.definitions.specs.World.{State, size, count, fifo-length, causal-length, sender, view}
+use Rattle.definitions.specs.Sound.{frame, message, fit, fine}
 use Rattle.world.specs.SoundLaws.{word-in}
 use Rattle.heads.specs.Known.{Sized, Placed, Headed}
 use Rattle.limits.specs.Limits.{exists-at}

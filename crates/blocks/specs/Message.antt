@@ -8,10 +8,11 @@ use lib.Dec.{eqb}
 use lib.ListN.{getD}
 use borrow.Author.Tests.{lt-ltb, eq-eqb, eqb-true}
 use Rattle.base.specs.Tests.{both}
-use Rattle.base.specs.Search.{every, every-true, every-intro}
-use Rattle.base.specs.Bits.{bit, with, only, only-none}
-use Rattle.world.specs.World.{State, count, sender, mask, stamp, number, flight, order, view}
-use Rattle.world.specs.Sound.{frame, message, addressee, sends, word, fit, fine}
+use Rattle.definitions.specs.General.{every, bit, with, only}
+use Rattle.base.specs.Search.{every-true, every-intro}
+use Rattle.base.specs.Bits.{only-none}
+use Rattle.definitions.specs.World.{State, count, sender, mask, stamp, number, flight, order, view}
+use Rattle.definitions.specs.Sound.{frame, message, addressee, sends, word, fit, fine}
 use Rattle.ranges.specs.Ranges.{zeros-at, within-at}
 use Rattle.limits.specs.Addressees.{addressees-of}
 use Rattle.regions.specs.Runs.{fine-run, run-of, run-one, run-join, run-cut}

@@ -7,11 +7,9 @@ use native.Mathlib.Omega.{arith}
 use lib.Dec.{ltb, leb, eqb}
 use borrow.Author.Tests.{lt-ltb, ltb-true}
 use Rattle.base.specs.Tests.{both, both-l, both-r, both-i, same}
-use Rattle.base.specs.Search.{every}
-use Rattle.base.specs.Count.{absent}
-use Rattle.base.specs.Bits.{only}
-use Rattle.world.specs.World.{State, size, count, group, trust, counter, sequence, delivered, up, fifo-length, causal-length, fifo, view}
-use Rattle.world.specs.Sound.{frame, process, message, addressee, word, item, fit, fine}
+use Rattle.definitions.specs.General.{every, absent, only}
+use Rattle.definitions.specs.World.{State, size, count, group, trust, counter, sequence, delivered, up, fifo-length, causal-length, fifo, view}
+use Rattle.definitions.specs.Sound.{frame, process, message, addressee, word, item, fit, fine}
 use Rattle.world.specs.SoundLaws.{word-in, word-leb}
 use Rattle.ranges.specs.Ranges.{within-at}
 use Rattle.ranges.specs.Sets.{shift-only}

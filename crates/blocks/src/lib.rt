@@ -2,7 +2,7 @@
 ghost use mathlib.Core.Path.{_≡_};
 ghost use mathlib.Core.Bool.{true};
 ghost use Prim.Native.Nat.{_+_, _*_, _<_};
-ghost use Rattle.world.specs.World.{view};
+ghost use Rattle.definitions.specs.World.{view};
 ghost use Rattle.regions.specs.Runs.{fine-run};
 ghost use Rattle.blocks.specs.Known.{Ready, Lengths};
 ghost use Rattle.blocks.specs.Logs.{logs-fine};

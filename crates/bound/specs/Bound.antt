@@ -10,13 +10,13 @@ use native.Mathlib.Omega.{arith}
 use native.Mathlib.Nat.{mul-le-mul}
 use lib.Dec.{ltb, eqb}
 use borrow.Author.Tests.{eqb-true, ne-eqb, lt-ltb}
-use Rattle.base.specs.Tests.{bool-cases, clash, pick, pick-le, both, both-l, both-r, both-i}
-use Rattle.base.specs.Count.{tally, tally-le, tally-zero, tally-cong}
-use Rattle.base.specs.Bits.{bit}
-use Rattle.world.specs.World.{size, count, sender, flight, State}
-use Rattle.world.specs.Sound.{Sound, frame, sends}
-use Rattle.world.specs.SoundLaws.{size-high, count-high, letter-facts}
-use Rattle.world.specs.Machine.{addressed}
+use Rattle.base.specs.Tests.{bool-cases, clash, pick-le, both, both-l, both-r, both-i}
+use Rattle.definitions.specs.General.{pick, tally, bit}
+use Rattle.base.specs.Count.{tally-le, tally-zero, tally-cong}
+use Rattle.definitions.specs.World.{size, count, sender, flight, State}
+use Rattle.world.specs.SoundLaws.{Sound, size-high, count-high, letter-facts}
+use Rattle.definitions.specs.Sound.{frame, sends}
+use Rattle.definitions.specs.Machine.{addressed}
 use Rattle.effects.specs.Arrival.{Fly}
 use Rattle.effects.specs.Spent.{Spent}
 use Rattle.bound.specs.Potential.{sum, sum-mono, addressee-count, sent, owed, one, cost, from-one, of-kind, of-message, potential, one-no, sends-later, sent-if}

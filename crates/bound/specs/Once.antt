@@ -6,9 +6,10 @@ use mathlib.Core.Logic.{inl, inr}
 use Prim.Native.Nat.{ℕ, _-_}
 use Rattle.base.specs.Tests.{clash}
 use Rattle.base.specs.Bits.{bit-zero}
-use Rattle.world.specs.World.{State}
-use Rattle.world.specs.Setup.{fresh, made}
-use Rattle.world.specs.History.{Run, Item, on-states, run, started}
+use Rattle.definitions.specs.World.{State}
+use Rattle.definitions.specs.Setup.{fresh, made}
+use Rattle.definitions.specs.History.{Run, Item, run}
+use Rattle.world.specs.Runs.{on-states, started}
 use Rattle.effects.specs.Arrival.{Fly}
 use Rattle.effects.specs.Runs.{run-keeps}
 use Rattle.effects.specs.Spent.{Spent, Once, spent-on, once-self, once-then, step-once}

@@ -6,10 +6,10 @@ use mathlib.Core.List.{List}
 use Prim.Native.Nat.{ℕ, _+_, _≤_, _<_}
 use native.Mathlib.Omega.{arith}
 use lib.ListN.{length, set}
-use Rattle.world.specs.World.{Cell, size, count, group, next, fifo-length, causal-length, fifo, sender, addr, Within, State, put, encode, view}
-use Rattle.world.specs.Layout.{get-encode, changes-put, changes-own}
-use Rattle.world.specs.Sound.{Frame, frame, Sound}
-use Rattle.world.specs.SoundLaws.{size-high, count-high, group-high, sender-high, fifo-length-high, causal-length-high, fifo-high, next-high}
+use Rattle.definitions.specs.World.{Cell, size, count, group, next, fifo-length, causal-length, fifo, sender, addr, State, put, encode, view}
+use Rattle.world.specs.Layout.{Within, get-encode, changes-put, changes-own}
+use Rattle.definitions.specs.Sound.{Frame, frame}
+use Rattle.world.specs.SoundLaws.{Sound, size-high, count-high, group-high, sender-high, fifo-length-high, causal-length-high, fifo-high, next-high}
 
 pub record Limits (f : Frame) (next : ℕ → ℕ → ℕ) : Type 0 where
   pub sizes : f .n ≤ 16

@@ -7,8 +7,10 @@ use Prim.Native.Nat.{ℕ, zero, suc, _-_, _≤_, _<_}
 use native.Mathlib.Omega.{arith}
 use lib.Dec.{ltb}
 use borrow.Author.Tests.{ltb-true}
-use Rattle.base.specs.Loop.{chosen, loop, loop-turn, loop-stops, loop-none}
-use Rattle.world.specs.World.{State, encode, Changes}
+use Rattle.definitions.specs.General.{chosen, loop}
+use Rattle.base.specs.Loop.{loop-turn, loop-stops, loop-none}
+use Rattle.definitions.specs.World.{State, encode}
+use Rattle.world.specs.Layout.{Changes}
 
 module _ (bound : State → ℕ) (test : State → ℕ → Bool) (act : State → ℕ → State) where
   -- with so many turns left; P is what the turns keep

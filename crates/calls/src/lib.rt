@@ -1,9 +1,9 @@
 // The calls that change a lent world: each tests the world, and then does its work. None asks anything of its caller.
-use world::Outcome;
-use world::Settling;
+use definitions::Outcome;
+use definitions::Settling;
 ghost use mathlib.Core.Path.{_≡_};
-ghost use Rattle.world.specs.Words.{step-refusal, stepped-words, settle-reply, settled-words};
-ghost use Rattle.world.specs.Answers.{outcome-number, settling-reply};
+ghost use Rattle.definitions.specs.Words.{step-refusal, stepped-words, settle-reply, settled-words};
+ghost use Rattle.definitions.specs.Answers.{outcome-number, settling-reply};
 
 // Takes the step that the bytes ask for: 1, 2, then 4 to 12.
 pub fn step(w: &mut [u16], bytes: &[u8]) -> Outcome

@@ -7,18 +7,18 @@ use Prim.Native.Nat.{ℕ, zero, suc, _+_, _-_, _≤_}
 use native.Mathlib.Omega.{arith}
 use lib.Dec.{eqb}
 use lib.ListN.{length}
-use Rattle.base.specs.Tests.{pick}
+use Rattle.definitions.specs.General.{pick}
 use Rattle.base.specs.Refusals.{needs-none}
-use Rattle.world.specs.World.{size, count, causal-length, causal, State, encode, view}
-use Rattle.world.specs.Sound.{Sound}
-use Rattle.world.specs.SoundLaws.{size-high}
-use Rattle.world.specs.Setup.{setup-refusal, made}
-use Rattle.world.specs.Steps.{Step, multicasts, arrives, loses, trusts, crashes, malformed, read, accepted, step}
+use Rattle.definitions.specs.World.{size, count, causal-length, causal, State, encode, view}
+use Rattle.world.specs.SoundLaws.{Sound, size-high}
+use Rattle.definitions.specs.Setup.{setup-refusal, made}
+use Rattle.definitions.specs.Steps.{Step, multicasts, arrives, loses, trusts, crashes, malformed, read, accepted, step}
 use Rattle.world.specs.StepLaws.{lowest-moves, moves-taken}
-use Rattle.world.specs.Settle.{lowest, Settled, settle-from, settle}
-use Rattle.world.specs.SettleLaws.{Alike, settle-related}
-use Rattle.world.specs.Words.{gives, reply, making-refusal, made-words, settle-words, settled-words, settle-reply}
-use Rattle.world.specs.History.{Event, sent, deliveries, grown, gained, casted, Engine, on-states, on-words, Run, Item, given, settling, taken, tick, settles, act, run, started, started-words}
+use Rattle.definitions.specs.Settle.{lowest, Settled, settle-from}
+use Rattle.world.specs.SettleLaws.{settle, Alike, settle-related}
+use Rattle.definitions.specs.Words.{gives, reply, making-refusal, made-words, settle-words, settled-words, settle-reply, on-words, started-words}
+use Rattle.definitions.specs.History.{Event, sent, deliveries, grown, gained, casted, Engine, Run, Item, given, settling, taken, tick, settles, act, run}
+use Rattle.world.specs.Runs.{on-states, started}
 use Rattle.keeps.specs.Keeps.{step-sound, run-sound}
 use Rattle.effects.specs.Events.{deliveries-same}
 use Rattle.carried.specs.Same.{Agree, same}

@@ -7,10 +7,10 @@ use mathlib.Core.List.{List}
 use Prim.Native.Nat.{ℕ, suc, _+_, _-_, _≤_, _<_}
 use native.Mathlib.Omega.{arith}
 use lib.ListN.{set}
-use Rattle.base.specs.Loop.{loop}
-use Rattle.world.specs.World.{count, next, fifo-length, causal-length, fifo, sender, addr, State, put, encode, view, Changes}
-use Rattle.world.specs.Layout.{put-same, put-at, set-encode, reads-cell}
-use Rattle.world.specs.Machine.{with-tables, merge, causal-one, causal-all, ready, appended, raised-next, send-oks, fifo-one, cascade}
+use Rattle.definitions.specs.General.{loop}
+use Rattle.definitions.specs.World.{count, next, fifo-length, causal-length, fifo, sender, addr, State, put, encode, view}
+use Rattle.world.specs.Layout.{Changes, put-same, put-at, set-encode, reads-cell}
+use Rattle.definitions.specs.Machine.{with-tables, merge, causal-one, causal-all, ready, appended, raised-next, send-oks, fifo-one, cascade}
 use Rattle.bounds.specs.Bounds.{Bounds, bounds-state}
 use Rattle.bounds.specs.Run.{Run, run-end, run-stop}
 use Rattle.logs.specs.Pushed.{pushed}

@@ -7,12 +7,12 @@ use mathlib.Core.Logic.{_⊎_, inl, inr}
 use Prim.Native.Nat.{ℕ, _-_, _≤_, _<_}
 use native.Mathlib.Omega.{arith}
 use borrow.Author.Tests.{not-true, not-false}
-use Rattle.base.specs.Tests.{bool-cases, clash, either, pick, pick-yes, pick-no}
-use Rattle.base.specs.Search.{some, some-i, first-from, first-law}
-use Rattle.base.specs.Loop.{chosen}
-use Rattle.world.specs.World.{count, fifo-length, sender, State, encode, view, Reads, Changes}
-use Rattle.world.specs.Layout.{reads-cell}
-use Rattle.world.specs.Machine.{ready, appended, causal-all, raised-next, due, fifo-one, cascade}
+use Rattle.base.specs.Tests.{bool-cases, clash, either, pick-yes, pick-no}
+use Rattle.definitions.specs.General.{pick, some, first-from, chosen}
+use Rattle.base.specs.Search.{some-i, first-law}
+use Rattle.definitions.specs.World.{count, fifo-length, sender, State, encode, view}
+use Rattle.world.specs.Layout.{Reads, Changes, reads-cell}
+use Rattle.definitions.specs.Machine.{ready, appended, causal-all, raised-next, due, fifo-one, cascade}
 use Rattle.bounds.specs.Bounds.{Bounds, bounds-words}
 use Rattle.bounds.specs.Run.{run-more}
 use Rattle.quiescence.specs.Quiescent.{Quiescent, the-count, a-sender, fifo-one-fixed}

@@ -2,8 +2,9 @@
 ghost use mathlib.Core.Path.{_≡_};
 ghost use Prim.Native.Nat.{_+_, _≤_, _<_};
 ghost use lib.ListN.{length};
-ghost use Rattle.world.specs.World.{count, fifo-length, next, view, Reads, Changes};
-ghost use Rattle.world.specs.Machine.{raised-next, fifo-one, cascade};
+ghost use Rattle.definitions.specs.World.{count, fifo-length, next, view};
+ghost use Rattle.world.specs.Layout.{Reads, Changes};
+ghost use Rattle.definitions.specs.Machine.{raised-next, fifo-one, cascade};
 ghost use Rattle.bounds.specs.Bounds.{Bounds};
 ghost use Rattle.ready.specs.Ready.{KnownIf};
 ghost use Rattle.cascade.specs.Turn.{owes-after, choice};

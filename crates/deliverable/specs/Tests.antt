@@ -6,15 +6,14 @@ use Prim.Native.Nat.{ℕ, _<_}
 use native.Mathlib.Omega.{arith}
 use lib.Dec.{leb, eqb}
 use borrow.Author.Tests.{eq-eqb, ne-eqb}
-use Rattle.base.specs.Bits.{bit}
-use Rattle.base.specs.Count.{absent}
-use Rattle.base.specs.Search.{every, every-cong}
+use Rattle.definitions.specs.General.{bit, absent, every}
+use Rattle.base.specs.Search.{every-cong}
 use Rattle.base.specs.Tests.{both, either}
 use Rattle.bounds.specs.Bounds.{Bounds, bounds-state}
-use Rattle.world.specs.Layout.{get-encode}
+use Rattle.world.specs.Layout.{get-encode, Reads}
 use Rattle.sets.specs.Members.{Members}
-use Rattle.world.specs.Machine.{outside-causal, fits, deliverable, deliverable-at}
-use Rattle.world.specs.World.{size, group, delivered, causal-length, fifo, causal, sender, stamp, State, encode, view, Reads}
+use Rattle.definitions.specs.Machine.{outside-causal, fits, deliverable, deliverable-at}
+use Rattle.definitions.specs.World.{size, group, delivered, causal-length, fifo, causal, sender, stamp, State, encode, view}
 
 -- ---- what the tests read of words
 module _ (s : State) (h : Bounds s) (p : ℕ) (hp : p < 16) where

@@ -9,11 +9,11 @@ use lib.Dec.{eqb}
 use borrow.Author.Tests.{eq-eqb, ne-eqb}
 use lib.ListN.{length, take, drop, getD, set}
 use lib.Seq.{drop-drop, getD-set-same, getD-set-other}
-use Rattle.base.specs.Tabulate.{tabulate, length-tabulate, getD-tabulate, is-tabulate}
-use Rattle.base.specs.Tests.{pick}
-use Rattle.world.specs.Layout.{put-same, put-other, encode-ext, part-encode, reads-cell}
-use Rattle.world.specs.Machine.{merge, with-tables, causal-one}
-use Rattle.world.specs.World.{rule, order, view, Cell, size, count, group, trust, counter, sequence, next, delivered, up, fifo-length, causal-length, held, marks, fifo, causal, sender, mask, stamp, number, flight, unused, Within, State, put, encode, Reads, Changes}
+use Rattle.definitions.specs.General.{tabulate, pick}
+use Rattle.base.specs.Tabulate.{length-tabulate, getD-tabulate, is-tabulate}
+use Rattle.world.specs.Layout.{put-same, put-other, encode-ext, part-encode, reads-cell, Within, Reads, Changes}
+use Rattle.definitions.specs.Machine.{merge, with-tables, causal-one}
+use Rattle.definitions.specs.World.{rule, order, view, Cell, size, count, group, trust, counter, sequence, next, delivered, up, fifo-length, causal-length, held, marks, fifo, causal, sender, mask, stamp, number, flight, unused, State, put, encode}
 use Rattle.logs.specs.Pushed.{pushed}
 use Rattle.records.specs.declared.Process.{Process}
 use Rattle.records.specs.Record.{record-of, with-record, with-delivery, pick-to, pick-both}

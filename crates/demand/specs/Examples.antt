@@ -1,6 +1,6 @@
 -- Runs that meet the hypotheses of demand 3, computed on states: one in which a message is overtaken by one
 -- that it precedes, and waits; and one in which a process crashes and the trust rule holds, so that the FIFO
--- logs agree after a settle. Assumes nothing.
+-- logs agree after a settle; the second over lent words too. Assumes nothing.
 use mathlib.Core.Path.{_≡_, refl, sym}
 use mathlib.Core.Bool.{Bool, true, false, _&&_}
 use mathlib.Core.List.{List, [], _∷_}
@@ -8,19 +8,25 @@ use Prim.Native.Nat.{ℕ, _<_}
 use native.Mathlib.Decide.{ℕ-discrete}
 use native.Mathlib.Omega.{arith}
 use lib.Dec.{eqb}
+use lib.ListN.{length}
+use borrow.Author.Tests.{eq-eqb}
 use Rattle.base.specs.Tests.{clash, at-or-off}
-use Rattle.base.specs.Search.{every, some, first-from}
-use Rattle.base.specs.Count.{absent}
-use Rattle.base.specs.Loop.{chosen, loop}
-use Rattle.base.specs.Bits.{bit, with, without, mask-of, only}
-use Rattle.world.specs.World.{size, group, trust, up, fifo-length, causal-length, fifo, causal, State, put}
-use Rattle.world.specs.Setup.{fresh, setup-bits, setup-group, setup-has, good-setup, setup-refusal, made}
-use Rattle.world.specs.Machine.{with-tables, ready, deliverable, deliverable-at, merge, causal-one, causal-all, appended, raised-next, due, send-ok, send-oks, fifo-one, cascade, raised, stamped, numbered, posted, multicast, leave, mark, hold, arrival, trust-set, crash}
-use Rattle.world.specs.Steps.{read, has-group, good-mask, is-up, refusal, step}
-use Rattle.world.specs.Settle.{moves, receiver, origin, kind, movable, letter-of, lowest, settle-from}
-use Rattle.world.specs.History.{Event, sent, got, here, there, same, carried, chain, Before, casts, deliveries, gained, Run, Item, given, on-states, tick, act, run, started, names, InForce, AllAlong, TrustRule}
+use Rattle.definitions.specs.General.{every, some, first-from, absent, chosen, loop, bit, with, without, mask-of, only}
+use Rattle.definitions.specs.World.{size, group, trust, up, fifo-length, causal-length, fifo, causal, State, put}
+use Rattle.definitions.specs.Setup.{fresh, setup-bits, setup-group, setup-has, good-setup, setup-refusal, made}
+use Rattle.definitions.specs.Machine.{with-tables, ready, deliverable, deliverable-at, merge, causal-one, causal-all, appended, raised-next, due, send-ok, send-oks, fifo-one, cascade, raised, stamped, numbered, posted, multicast, leave, mark, hold, arrival, trust-set, crash}
+use Rattle.definitions.specs.Steps.{read, has-group, good-mask, is-up, refusal, step}
+use Rattle.definitions.specs.Settle.{moves, receiver, origin, kind, movable, letter-of, lowest, settle-from}
+use Rattle.definitions.specs.History.{Event, sent, got, here, there, same, carried, chain, Before, casts, deliveries, gained, Run, Item, given, tick, act, run, names, InForce, AllAlong, TrustRule}
+use Rattle.world.specs.Runs.{on-states, started}
+use Rattle.definitions.specs.Words.{making-refusal, settled-words, on-words, started-words}
+use Rattle.definitions.specs.Demand.{Agreed as AgreedWords}
+use Rattle.keeps.specs.Keeps.{fresh-sound}
 use Rattle.agreement.specs.Agreement.{Agreed}
+use Rattle.carried.specs.Carried.{start-carried}
 use Rattle.demand.specs.States.{settled, demand-3-states}
+use Rattle.demand.specs.Words.{rule-written}
+use Rattle.demand.specs.Theorem.{demand-3}
 
 -- ---- steps as items
 abbrev multicasting : ℕ → ℕ → Item
@@ -211,3 +217,22 @@ unfolding ℕ-discrete every some first-from absent chosen loop bit with without
     setup-bits setup-group made read has-group good-mask refusal step tick act run gained deliveries
     moves receiver origin kind movable letter-of lowest settle-from settled
 crash-delivered = refl
+
+-- ---- the second run over any lent words, as a caller has it
+module _ (w : List ℕ) (long : length w ≡ 20480) where
+  -- the setup record is taken
+  pair-taken : making-refusal w pair ≡ 0
+  unfolding making-refusal setup-refusal good-setup setup-has setup-bits setup-group every
+  pair-taken = rw (eq-eqb (length w) 20480 long)
+
+  -- the trust rule holds
+  pub crash-rule-words : TrustRule on-words (started-words w pair) crashing
+  unfolding setup-refusal good-setup setup-has setup-bits setup-group every
+  crash-rule-words =
+      rw (start-carried w pair pair-taken)
+      (rule-written (started pair) crashing (fresh-sound pair refl) crash-rule)
+
+  -- so the FIFO logs agree after a settle
+  pub crash-agreed-words : AgreedWords
+      (settled-words (run on-words (started-words w pair) crashing .now) 33792)
+  crash-agreed-words = demand-3 w pair crashing pair-taken .settles crash-rule-words 33792 (omega arith) .1

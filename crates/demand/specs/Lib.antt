@@ -1,4 +1,5 @@
 pub mod States
 pub mod Words
 pub mod Theorem
+pub mod Uses
 pub mod Examples

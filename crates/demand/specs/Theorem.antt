@@ -11,19 +11,19 @@ use native.Mathlib.Omega.{arith}
 use lib.Dec.{eqb}
 use lib.ListN.{length, getD}
 use borrow.Author.Tests.{ltb-true}
-use Rattle.base.specs.Count.{in-at}
+use Rattle.definitions.specs.General.{in-at}
 use Rattle.base.specs.Tabulate.{length-tabulate, getD-tabulate}
-use Rattle.world.specs.World.{size, count, up, causal-length, fifo, causal, sender, State, encode, view}
+use Rattle.definitions.specs.World.{size, count, up, causal-length, fifo, causal, sender, State, encode, view}
 use Rattle.world.specs.Layout.{get-encode}
-use Rattle.world.specs.Sound.{Sound}
-use Rattle.world.specs.SoundLaws.{size-high, count-high, sender-low, fifo-addressed}
-use Rattle.world.specs.Setup.{setup-refusal}
-use Rattle.world.specs.Machine.{addressed}
-use Rattle.world.specs.Steps.{is-up}
-use Rattle.world.specs.Settle.{Ending, done, stopped}
-use Rattle.world.specs.Words.{gives, settle-reply, log-words}
-use Rattle.world.specs.History.{Before, casts, Run, Item, on-states, on-words, run, started, TrustRule}
-use Rattle.world.specs.Demand.{CausalOrder, Agreed, AtMost, done-in, stopped-in, SaysDone, says-done, Demand3, Demand3Always}
+use Rattle.world.specs.SoundLaws.{Sound, size-high, count-high, sender-low, fifo-addressed}
+use Rattle.definitions.specs.Setup.{setup-refusal}
+use Rattle.definitions.specs.Machine.{addressed}
+use Rattle.definitions.specs.Steps.{is-up}
+use Rattle.definitions.specs.Settle.{Ending, done, stopped}
+use Rattle.definitions.specs.Words.{gives, settle-reply, log-words, on-words}
+use Rattle.definitions.specs.History.{Before, casts, Run, Item, run, TrustRule}
+use Rattle.world.specs.Runs.{on-states, started}
+use Rattle.definitions.specs.Demand.{CausalOrder, Agreed, AtMost, done-in, stopped-in, SaysDone, says-done, Demand3, Demand3Always}
 use Rattle.keeps.specs.Keeps.{run-sound, fresh-sound}
 use Rattle.order.specs.Precedence.{cast-low}
 use Rattle.order.specs.Runs.{Whole}
@@ -34,7 +34,7 @@ use Rattle.bound.specs.Settle.{arrivals, SaysDone as EndsDone}
 use Rattle.carried.specs.Calls.{log-carried, listed-in, in-listed}
 use Rattle.carried.specs.Carried.{written, settled-sound, settled-carried, answer-carried, run-carried, setup-taken, start-carried}
 use Rattle.demand.specs.States.{settled, Demand3States, demand-3-states}
-use Rattle.demand.specs.Words.{size-read, to-read, fair-read, run-size, along-read}
+use Rattle.demand.specs.Words.{size-read, to-read, rule-read}
 
 -- ---- conclusions 1 and 2
 module _ (r : Run State) (h : Sound (r .now)) (w : Whole r) where
@@ -148,18 +148,6 @@ module _ (setup : List ℕ) (items : List Item) (ok : setup-refusal setup ≡ 0)
   on-states-3 : Demand3States (started setup) items
   on-states-3 = demand-3-states setup items ok
 
-  -- the trust rule read off words is that of the states
-  rule-read : TrustRule on-words (written (started setup)) items → TrustRule on-states (started setup) items
-  rule-read t = record {
-    in-force =
-        along-read (r .now size) (is-up (view (run on-words (written (started setup)) items .now)))
-        (is-up (r .now))
-        (λ q l. ap (λ (x : ℕ). eqb x 1) (ap (λ (x : Run (List ℕ)). view (x .now) (up q)) carried
-        ∙ get-encode (r .now) (up q) (omega (arith, size-high (r .now) sound-last))))
-        items (started setup) (sym (run-size (started setup) items)) sound-first (t .in-force);
-    fair = fair-read (r .now) sound-last (rw carried at (t .fair));
-  }
-
   -- the demand on words
   demand-3-written : Demand3 (written (started setup)) items
   unfolding settled
@@ -170,7 +158,7 @@ module _ (setup : List ℕ) (items : List Item) (ok : setup-refusal setup ≡ 0)
       rw (reply b) (says (settled r b .ending) (on-states-3 .finishes b l)),
       rw (carried, settled-carried r sound-last b)
           (agreed-words (settled r b .world .now) (settled-sound r sound-last b)
-          (on-states-3 .agreed (rule-read t) b l)),
+          (on-states-3 .agreed (rule-read (started setup) items sound-first t) b l)),
     );
   }
     where

@@ -1,20 +1,24 @@
 -- What is read off the words of a run: how many processes there are, to whom a message is, and the trust rule,
--- which is that of the states. Assumes nothing.
-use mathlib.Core.Path.{_≡_, refl, sym, ap₂, _∙_}
+-- which holds of the words exactly when it holds of the states. Assumes nothing.
+use mathlib.Core.Path.{_≡_, refl, sym, ap, ap₂, _∙_}
 use mathlib.Core.Bool.{Bool}
 use mathlib.Core.List.{List, [], _∷_}
 use Prim.Native.Nat.{ℕ, _<_}
 use native.Mathlib.Omega.{arith}
-use Rattle.base.specs.Bits.{bit}
-use Rattle.world.specs.World.{size, group, trust, up, mask, State, encode, view}
+use lib.Dec.{eqb}
+use Rattle.definitions.specs.General.{bit}
+use Rattle.definitions.specs.World.{size, group, trust, up, mask, State, encode, view}
 use Rattle.world.specs.Layout.{get-encode}
-use Rattle.world.specs.Sound.{Sound}
-use Rattle.world.specs.SoundLaws.{size-high}
-use Rattle.world.specs.Machine.{addressed}
-use Rattle.world.specs.History.{Run, Item, on-states, on-words, act, run, Names, names, InForce, Fair, AllAlong}
+use Rattle.world.specs.SoundLaws.{Sound, size-high}
+use Rattle.definitions.specs.Machine.{addressed}
+use Rattle.definitions.specs.Steps.{is-up}
+use Rattle.definitions.specs.History.{Run, Item, act, run, Names, names, InForce, Fair, AllAlong, TrustRule}
+use Rattle.world.specs.Runs.{on-states}
+use Rattle.definitions.specs.Words.{on-words}
 use Rattle.effects.specs.Runs.{act-keeps, run-keeps}
 use Rattle.effects.specs.Holding.{step-lasting}
-use Rattle.carried.specs.Carried.{written, act-carried, act-sound}
+use Rattle.carried.specs.Carried.{written, act-carried, act-sound, run-carried}
+use Rattle.keeps.specs.Keeps.{run-sound}
 
 -- ---- the words of a sound state
 module _ (s : State) (h : Sound s) where
@@ -27,32 +31,57 @@ module _ (s : State) (h : Sound s) where
   to-read m q hm hq = ap₂ bit (get-encode s (mask m) hm) (get-encode s (group q) hq)
 
 -- ---- the trust rule
-module _ (s : State) (h : Sound s) where
-  low : (p : ℕ) → p < s size → p < 16
-  low p l = omega (arith, size-high s h)
+-- two states that it reads alike
+record Alike (s t : State) : Type 0 where
+  pub sizes : s size ≡ t size
+  pub groups : (p : ℕ) → p < s size → s (group p) ≡ t (group p)
+  pub trusts : (p : ℕ) → p < s size → s (trust p) ≡ t (trust p)
+  pub ups : (p : ℕ) → p < s size → s (up p) ≡ t (up p)
 
-  -- the trust sets in force, read off words
-  in-force-read : (live live′ : ℕ → Bool) → ((q : ℕ) → q < s size → live q ≡ live′ q)
-      → InForce live (view (encode s))
-      → InForce live′ s
-  in-force-read live live′ e f p q hp hq u l =
-      go (f p q (omega (arith, size-read s h)) (omega (arith, size-read s h))
-      (get-encode s (up p) (low p hp) ∙ u) (e q hq ∙ l))
+alike-sym : {s t : State} → Alike s t → Alike t s
+alike-sym {s} {t} a = record {
+  sizes = sym (a .sizes);
+  groups = λ p l. sym (a .groups p (low p l));
+  trusts = λ p l. sym (a .trusts p (low p l));
+  ups = λ p l. sym (a .ups p (low p l));
+}
+  where
+    low : (p : ℕ) → p < t size → p < s size
+    low p l = omega (arith, a .sizes)
+
+-- the words of a sound state, and it
+words-alike : (s : State) → Sound s → Alike (view (encode s)) s
+words-alike s h = record {
+  sizes = size-read s h;
+  groups = λ p l. get-encode s (group p) (low p l);
+  trusts = λ p l. get-encode s (trust p) (low p l);
+  ups = λ p l. get-encode s (up p) (low p l);
+}
+  where
+    low : (p : ℕ) → p < view (encode s) size → p < 16
+    low p l = omega (arith, size-read s h, size-high s h)
+
+-- its two parts, in one and in the other
+module _ {s t : State} (a : Alike s t) where
+  below : (p : ℕ) → p < t size → p < s size
+  below p l = omega (arith, a .sizes)
+
+  -- the trust sets in force
+  in-force-alike : (live live′ : ℕ → Bool) → ((q : ℕ) → q < s size → live q ≡ live′ q) → InForce live s
+      → InForce live′ t
+  in-force-alike live live′ e f p q hp hq u l =
+      go (f p q (below p hp) (below q hq) (a .ups p (below p hp) ∙ u) (e q (below q hq) ∙ l))
     where
-      go : Names live (view (encode s)) p q → Names live′ s p q
+      go : Names live s p q → Names live′ t p q
       go (names v hv lv gv bv) =
-          let hv′ : v < s size = omega (arith, size-read s h) in
-          names v hv′ (sym (e v hv′) ∙ lv)
-          (sym (get-encode s (group v) (low v hv′)) ∙ gv ∙ get-encode s (group q) (low q hq))
-          (rw (get-encode s (trust p) (low p hp)) at bv)
+          names v (omega (arith, a .sizes)) (sym (e v hv) ∙ lv)
+          (sym (a .groups v hv) ∙ gv ∙ a .groups q (below q hq)) (rw (a .trusts p (below p hp)) at bv)
 
   -- and that up processes trust up processes only
-  pub fair-read : Fair (view (encode s)) → Fair s
-  fair-read f p q hp hq u b =
-      sym (get-encode s (up q) (low q hq))
-      ∙ f p q (omega (arith, size-read s h)) (omega (arith, size-read s h))
-      (get-encode s (up p) (low p hp) ∙ u)
-      (rw (get-encode s (trust p) (low p hp)) b)
+  fair-alike : Fair s → Fair t
+  fair-alike f p q hp hq u b =
+      sym (a .ups q (below q hq))
+      ∙ f p q (below p hp) (below q hq) (a .ups p (below p hp) ∙ u) (rw (a .trusts p (below p hp)) b)
 
 -- ---- the number of processes is changed by no item
 act-size : (r : Run State) (i : Item) → act on-states r i .now size ≡ r .now size
@@ -63,14 +92,64 @@ pub run-size : (r : Run State) (items : List Item) → run on-states r items .no
 run-size r items =
     run-keeps (λ t. t .now size ≡ r .now size) (λ t x _ e. step-lasting (t .now) x .0 ∙ e) r items refl
 
--- along a list, in which every state has n processes
+-- along a list, in which every state has n processes: read off words, and carried to them
 module _ (n : ℕ) (live live′ : ℕ → Bool) (e : (q : ℕ) → q < n → live q ≡ live′ q) where
-  pub along-read : (items : List Item) (r : Run State) → r .now size ≡ n → Sound (r .now)
+  first-read : (r : Run State) → r .now size ≡ n → Sound (r .now) → InForce live (view (encode (r .now)))
+      → InForce live′ (r .now)
+  first-read r z h f =
+      in-force-alike (words-alike (r .now) h) live live′ (λ q l. e q (omega (arith, size-read (r .now) h))) f
+
+  first-written : (r : Run State) → r .now size ≡ n → Sound (r .now) → InForce live (r .now)
+      → InForce live′ (view (encode (r .now)))
+  first-written r z h f = in-force-alike (alike-sym (words-alike (r .now) h)) live live′ (λ q l. e q (omega arith)) f
+
+  along-read : (items : List Item) (r : Run State) → r .now size ≡ n → Sound (r .now)
       → AllAlong on-words live (written r) items → AllAlong on-states live′ r items
   unfolding AllAlong
-  along-read [] r z h f = in-force-read (r .now) h live live′ (λ q l. e q (omega arith)) f
+  along-read [] r z h f = first-read r z h f
   along-read (i ∷ items) r z h f = (
-    in-force-read (r .now) h live live′ (λ q l. e q (omega arith)) (f .0),
+    first-read r z h (f .0),
     along-read items (act on-states r i) (act-size r i ∙ z) (act-sound r i h)
         (rw (act-carried r i h) at (f .1)),
   )
+
+  along-written : (items : List Item) (r : Run State) → r .now size ≡ n → Sound (r .now)
+      → AllAlong on-states live r items → AllAlong on-words live′ (written r) items
+  unfolding AllAlong
+  along-written [] r z h f = first-written r z h f
+  along-written (i ∷ items) r z h f = (
+    first-written r z h (f .0),
+    rw (act-carried r i h) (along-written items (act on-states r i) (act-size r i ∙ z) (act-sound r i h) (f .1)),
+  )
+
+-- the trust rule of a list, over words and over states
+module _ (r : Run State) (items : List Item) (h : Sound (r .now)) where
+  -- after the list
+  abbrev last : State
+  last = run on-states r items .now
+
+  sound-last : Sound (run on-states r items .now)
+  sound-last = run-sound r items h
+
+  carried : run on-words (written r) items .now ≡ encode (run on-states r items .now)
+  carried = ap (λ (t : Run (List ℕ)). t .now) (run-carried r items h)
+
+  -- who is up on the words of the last state is up
+  live-read : (q : ℕ) → q < last size → is-up (view (run on-words (written r) items .now)) q ≡ is-up last q
+  live-read q l =
+      ap (λ (w : List ℕ). is-up (view w) q) carried
+      ∙ ap (λ (x : ℕ). eqb x 1) (words-alike last sound-last .ups q (omega (arith, size-read last sound-last)))
+
+  pub rule-read : TrustRule on-words (written r) items → TrustRule on-states r items
+  rule-read t = record {
+    in-force = along-read (last size) _ _ live-read items r (sym (run-size r items)) h (t .in-force);
+    fair = fair-alike (words-alike last sound-last) (rw carried at (t .fair));
+  }
+
+  pub rule-written : TrustRule on-states r items → TrustRule on-words (written r) items
+  rule-written t = record {
+    in-force =
+        along-written (last size) _ _ (λ q l. sym (live-read q l)) items r (sym (run-size r items)) h
+        (t .in-force);
+    fair = rw carried (fair-alike (alike-sym (words-alike last sound-last)) (t .fair));
+  }

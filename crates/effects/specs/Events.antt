@@ -7,8 +7,8 @@ use Prim.Native.Nat.{ℕ, zero, suc, _+_, _-_, _<_}
 use native.Mathlib.Omega.{arith}
 use native.Mathlib.Nat.{not-suc-le-zero}
 use native.Mathlib.Decide.{ℕ-discrete}
-use Rattle.world.specs.World.{causal-length, causal, State}
-use Rattle.world.specs.History.{Event, got, deliveries, grown, gained}
+use Rattle.definitions.specs.World.{causal-length, causal, State}
+use Rattle.definitions.specs.History.{Event, got, deliveries, grown, gained}
 
 -- deliveries read off equal items
 pub deliveries-same : (p a n : ℕ) (f g : ℕ → ℕ) (es : List Event)

@@ -10,13 +10,12 @@ use lib.Dec.{ltb}
 use borrow.Author.Tests.{eqb-true, eqb-false}
 use Rattle.base.specs.Tests.{clash, both, both-r}
 use Rattle.base.specs.Refusals.{needs-none}
-use Rattle.base.specs.Bits.{bit}
-use Rattle.world.specs.World.{size, count, group, trust, up, held, mask, State, put}
+use Rattle.definitions.specs.General.{bit}
+use Rattle.definitions.specs.World.{size, count, group, trust, up, held, mask, State, put}
 use Rattle.world.specs.Layout.{put-other}
-use Rattle.world.specs.Sound.{Sound}
-use Rattle.world.specs.SoundLaws.{size-high, count-high, letter-facts, held-facts}
-use Rattle.world.specs.Machine.{with-tables, addressed, raised, stamped, numbered, posted, multicast, cascade, leave, received, arrival, trust-set, crash}
-use Rattle.world.specs.Steps.{Step, multicasts, arrives, loses, trusts, crashes, malformed, is-process, is-message, is-up, in-flight, refusal, accepted, step}
+use Rattle.world.specs.SoundLaws.{Sound, size-high, count-high, letter-facts, held-facts}
+use Rattle.definitions.specs.Machine.{with-tables, addressed, raised, stamped, numbered, posted, multicast, cascade, leave, received, arrival, trust-set, crash}
+use Rattle.definitions.specs.Steps.{Step, multicasts, arrives, loses, trusts, crashes, malformed, is-process, is-message, is-up, in-flight, refusal, accepted, step}
 use Rattle.world.specs.StepLaws.{InFlight, accepted-arrival}
 use Rattle.effects.specs.Views.{Ground, ground, Still, still}
 use Rattle.effects.specs.Cascade.{cascade-still}

@@ -3,13 +3,14 @@
 use mathlib.Core.Path.{_≡_, refl}
 use mathlib.Core.Bool.{Bool, true, false}
 use mathlib.Core.List.{List, [], _∷_, _++_}
-use Rattle.base.specs.Tests.{pick}
-use Rattle.world.specs.World.{State}
-use Rattle.world.specs.Steps.{Step, arrives, read, accepted}
+use Rattle.definitions.specs.General.{pick}
+use Rattle.definitions.specs.World.{State}
+use Rattle.definitions.specs.Steps.{Step, arrives, read, accepted}
 use Rattle.world.specs.StepLaws.{lowest-moves, moves-taken}
-use Rattle.world.specs.Settle.{lowest}
+use Rattle.definitions.specs.Settle.{lowest}
 use Rattle.world.specs.SettleLaws.{settle-keeps}
-use Rattle.world.specs.History.{Run, Item, given, settling, on-states, taken, tick, settles, act, run}
+use Rattle.definitions.specs.History.{Run, Item, given, settling, taken, tick, settles, act, run}
+use Rattle.world.specs.Runs.{on-states}
 
 module _ (P : Run State → Type 0)
     (keep : (r : Run State) (x : Step) → accepted (r .now) x ≡ true → P r → P (taken on-states r x)) where

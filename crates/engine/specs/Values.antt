@@ -4,11 +4,11 @@ use mathlib.Core.Path.{_≡_, ap, _∙_}
 use mathlib.Core.List.{List}
 use Prim.Native.Nat.{ℕ}
 use lib.Dec.{eqb}
-use Rattle.base.specs.Tests.{pick}
+use Rattle.definitions.specs.General.{pick}
 use Rattle.journal.specs.Answers.{Answer}
-use Rattle.world.specs.Settle.{Ending, done, stopped}
-use Rattle.world.specs.Words.{Reply, gives, refuses}
-use Rattle.replaying.specs.Replay.{Counts}
+use Rattle.definitions.specs.Settle.{Ending, done, stopped}
+use Rattle.definitions.specs.Words.{Reply, gives, refuses}
+use Rattle.definitions.specs.Replay.{Counts}
 
 -- ---- of a journal's answer
 abbrev pub given : Answer → ℕ → ℕ

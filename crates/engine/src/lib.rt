@@ -1,20 +1,20 @@
 // The functions that the archive exports. Each returns 0, or the number of the refusal of document 01; what else
 // it answers goes out through a lent number. A refusal leaves everything that was lent as it was.
+use definitions::LogLength;
+use definitions::Outcome;
+use definitions::Settling;
 use journal::Counted;
 use journal::ReadBack;
 use journal::Sized;
 use journal::Written;
 use replaying::Replaying;
-use world::LogLength;
-use world::Outcome;
-use world::Settling;
 ghost use mathlib.Core.Path.{_≡_};
 ghost use lib.ListN.{length};
-ghost use Rattle.journal.specs.Journal.{write-refusal, written, read-refusal, read-out};
+ghost use Rattle.definitions.specs.Journal.{write-refusal, written, read-refusal, read-out};
 ghost use Rattle.journal.specs.Answers.{of-written, of-read, length-answer, count-answer};
-ghost use Rattle.world.specs.Words.{making-refusal, made-words, step-refusal, stepped-words, settle-reply, settled-words, log-start, length-reply};
-ghost use Rattle.world.specs.Answers.{outcome-number};
-ghost use Rattle.replaying.specs.Replay.{replay-reply, replayed-words};
+ghost use Rattle.definitions.specs.Words.{making-refusal, made-words, step-refusal, stepped-words, settle-reply, settled-words, log-start, length-reply};
+ghost use Rattle.definitions.specs.Answers.{outcome-number};
+ghost use Rattle.definitions.specs.Replay.{replay-reply, replayed-words};
 ghost use Rattle.engine.specs.Values.{given, refusal-in, value-in, arrivals-in, done-in, steps-in, refused-in};
 
 // The number of an outcome.

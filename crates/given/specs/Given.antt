@@ -6,10 +6,9 @@ use Prim.Native.Nat.{ℕ, _+_, _≤_, _<_}
 use lib.Dec.{ltb, eqb}
 use borrow.Author.Tests.{eq-eqb, ne-eqb, lt-ltb, le-ltb}
 use lib.ListN.{length}
-use Rattle.base.specs.Tests.{pick}
-use Rattle.base.specs.Search.{every, every-intro, every-more, every-fails}
-use Rattle.world.specs.Setup.{byte}
-use Rattle.world.specs.Steps.{Step, multicasts, arrives, loses, trusts, crashes, malformed, zeros-from, word-at, read}
+use Rattle.definitions.specs.General.{pick, every, byte, low-first}
+use Rattle.base.specs.Search.{every-intro, every-more, every-fails}
+use Rattle.definitions.specs.Steps.{Step, multicasts, arrives, loses, trusts, crashes, malformed, zeros-from, read}
 use Rattle.given.specs.declared.Given.{Given}
 use Rattle.given.specs.declared.Given.the-variants as given
 
@@ -55,7 +54,7 @@ read-as k bytes =
     (arrives (byte bytes 1) (byte bytes 2) (byte bytes 3) (byte bytes 4))
     (pick (eqb k 3 && ltb (byte bytes 1) 3 && zeros-from bytes 5)
     (loses (byte bytes 1) (byte bytes 2) (byte bytes 3) (byte bytes 4))
-    (pick (eqb k 4 && zeros-from bytes 4) (trusts (byte bytes 1) (word-at bytes 2))
+    (pick (eqb k 4 && zeros-from bytes 4) (trusts (byte bytes 1) (low-first bytes 2))
     (pick (eqb k 5 && zeros-from bytes 2) (crashes (byte bytes 1)) malformed))))
 
 pub read-short : (bytes : List ℕ) → (length bytes ≡ 8 → ⊥) → malformed ≡ read bytes

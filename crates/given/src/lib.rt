@@ -2,8 +2,8 @@
 ghost use mathlib.Core.Path.{_≡_};
 ghost use Prim.Native.Nat.{_≤_, _<_};
 ghost use lib.ListN.{length, getD};
-ghost use Rattle.base.specs.Tests.{pick};
-ghost use Rattle.world.specs.Steps.{zeros-from, read};
+ghost use Rattle.definitions.specs.General.{pick};
+ghost use Rattle.definitions.specs.Steps.{zeros-from, read};
 ghost use Rattle.given.specs.Given.{step-of, letter-good};
 
 // What the bytes ask for. A letter is its kind, its message, from whom and to whom.

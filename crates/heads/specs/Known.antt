@@ -4,9 +4,9 @@ use mathlib.Core.Bool.{true}
 use mathlib.Core.List.{List}
 use Prim.Native.Nat.{ℕ, _≤_, _<_}
 use lib.ListN.{length}
-use Rattle.base.specs.Bits.{bit}
-use Rattle.world.specs.World.{State, size, count, rule, group, sender, mask, view}
-use Rattle.world.specs.Sound.{frame, present, fine}
+use Rattle.definitions.specs.General.{bit}
+use Rattle.definitions.specs.World.{State, size, count, rule, group, sender, mask, view}
+use Rattle.definitions.specs.Sound.{frame, present, fine}
 
 -- The words are 20,480; n and the number of messages are theirs and obey their limits; the word for a later
 -- rule is zero.

@@ -7,10 +7,9 @@ use native.Mathlib.Omega.{arith}
 use lib.Bits.{bitAnd}
 use lib.Dec.{ltb, eqb}
 use borrow.Author.Tests.{lt-ltb}
-use Rattle.base.specs.Search.{every}
-use Rattle.base.specs.Bits.{only}
-use Rattle.world.specs.World.{State, sender, mask, view}
-use Rattle.world.specs.Sound.{frame, process, message, present, word, fit, fine}
+use Rattle.definitions.specs.General.{every, only}
+use Rattle.definitions.specs.World.{State, sender, mask, view}
+use Rattle.definitions.specs.Sound.{frame, process, message, present, word, fit, fine}
 use Rattle.ranges.specs.Sets.{subset-only}
 use Rattle.heads.specs.Known.{Sized, Grouped}
 

@@ -3,7 +3,7 @@
 ghost use mathlib.Core.Path.{_≡_};
 ghost use mathlib.Core.Bool.{_&&_};
 ghost use lib.Dec.{leb, eqb};
-ghost use Rattle.world.specs.World.{view};
+ghost use Rattle.definitions.specs.World.{view};
 ghost use Rattle.heads.specs.Known.{Sized, Grouped};
 ghost use Rattle.heads.specs.Groups.{GroupSet, GroupTest};
 ghost use Rattle.heads.specs.Messages.{head-ok, heads-fine};

@@ -9,15 +9,15 @@ use native.Mathlib.Omega.{arith}
 use native.Mathlib.Decide.{ℕ-discrete}
 use lib.Dec.{eqb}
 use borrow.Author.Tests.{ltb-true, lt-ltb, le-leb, leb-true, eqb-true, eq-eqb, ne-eqb, not-true}
-use Rattle.base.specs.Tests.{clash, both, both-l, both-r, both-i, pick}
-use Rattle.base.specs.Count.{in-at, absent, absent-out, room-left}
+use Rattle.base.specs.Tests.{clash, both, both-l, both-r, both-i}
+use Rattle.definitions.specs.General.{pick, in-at, absent, bit}
+use Rattle.base.specs.Count.{absent-out, room-left}
 use Rattle.base.specs.Loop.{loop-keeps}
-use Rattle.base.specs.Bits.{bit}
-use Rattle.world.specs.World.{size, count, rule, group, trust, counter, sequence, next, delivered, up, fifo-length, causal-length, held, marks, fifo, causal, sender, mask, stamp, number, flight, order, unused, State, Within, put}
-use Rattle.world.specs.Layout.{put-at}
-use Rattle.world.specs.Sound.{Frame, frame, process, message, present, addressee, sends, logged-of, fit, fine, Sound}
-use Rattle.world.specs.SoundLaws.{size-high, count-high, sender-low, fifo-addressed, fifo-once, Addressed, held-facts, letter-facts}
-use Rattle.world.specs.Machine.{in-turn, outside-fifo, ready, causal-all, appended, raised-next, fifo-one, cascade, leave, mark, hold, received, arrival, trust-set}
+use Rattle.definitions.specs.World.{size, count, rule, group, trust, counter, sequence, next, delivered, up, fifo-length, causal-length, held, marks, fifo, causal, sender, mask, stamp, number, flight, order, unused, State, put}
+use Rattle.world.specs.Layout.{Within, put-at}
+use Rattle.definitions.specs.Sound.{Frame, frame, process, message, present, addressee, sends, logged-of, fit, fine}
+use Rattle.world.specs.SoundLaws.{Sound, size-high, count-high, sender-low, fifo-addressed, fifo-once, Addressed, held-facts, letter-facts}
+use Rattle.definitions.specs.Machine.{in-turn, outside-fifo, ready, causal-all, appended, raised-next, fifo-one, cascade, leave, mark, hold, received, arrival, trust-set}
 use Rattle.world.specs.Kept.{marked-keeps, received-keeps}
 use Rattle.keeps.specs.Forms.{word-to}
 use Rattle.keeps.specs.Logs.{Longer, put-longer, longer-item, longer-bound, longer-length, longer-listed, longer-tally, item-weaker}

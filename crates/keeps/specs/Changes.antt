@@ -9,13 +9,14 @@ use Prim.Native.Nat.{ℕ, zero, suc, _≤_, _<_, _^_}
 use native.Mathlib.Omega.{arith}
 use lib.Dec.{ltb, leb, eqb}
 use borrow.Author.Tests.{ltb-true, ltb-false, eqb-true, lt-ltb}
-use Rattle.base.specs.Tests.{clash, both-l, both-i, pick}
-use Rattle.base.specs.Bits.{bit, with, without, only, only-e, only-i, with-cases, without-old, sub-without, bit-mask-of, bit-mask-of-above}
-use Rattle.world.specs.World.{Cell, size, trust, up, held, marks, sender, flight, State, put}
+use Rattle.base.specs.Tests.{clash, both-l, both-i}
+use Rattle.definitions.specs.General.{pick, bit, with, without, only}
+use Rattle.base.specs.Bits.{only-e, only-i, with-cases, without-old, sub-without, bit-mask-of, bit-mask-of-above}
+use Rattle.definitions.specs.World.{Cell, size, trust, up, held, marks, sender, flight, State, put}
 use Rattle.world.specs.Layout.{put-at}
-use Rattle.world.specs.Sound.{Frame, frame, process, message, addressee, sends, fit, fine, Sound}
-use Rattle.world.specs.SoundLaws.{word-in, word-is, size-high, Addressed, held-facts}
-use Rattle.world.specs.Machine.{addressed, addressees, in-turn, due, send-ok, send-oks, leave, mark, hold, crash}
+use Rattle.definitions.specs.Sound.{Frame, frame, process, message, addressee, sends, fit, fine}
+use Rattle.world.specs.SoundLaws.{Sound, word-in, word-is, size-high, Addressed, held-facts}
+use Rattle.definitions.specs.Machine.{addressed, addressees, in-turn, due, send-ok, send-oks, leave, mark, hold, crash}
 use Rattle.keeps.specs.Forms.{word-to, bit-below}
 
 -- A sound world in which p is a process.

@@ -9,9 +9,10 @@ use native.Mathlib.Nat.{div-eq-of-lt}
 use lib.Dec.{ltb, leb, eqb}
 use lib.Pow.{pow-mono}
 use borrow.Author.Tests.{ltb-true, ltb-false, le-leb, leb-true, eq-eqb, eqb-true}
-use Rattle.base.specs.Tests.{clash, pick}
-use Rattle.base.specs.Bits.{bit, bit-zero, only, only-i}
-use Rattle.world.specs.Sound.{word}
+use Rattle.base.specs.Tests.{clash}
+use Rattle.definitions.specs.General.{pick, bit, only}
+use Rattle.base.specs.Bits.{bit-zero, only-i}
+use Rattle.definitions.specs.Sound.{word}
 use Rattle.world.specs.SoundLaws.{word-out, word-is, word-leb}
 
 -- a word and its test changed together

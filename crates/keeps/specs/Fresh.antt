@@ -13,14 +13,14 @@ use lib.Dec.{ltb, leb, eqb, lit<}
 use lib.ListN.{length}
 use lib.Pow.{pow-pos}
 use borrow.Author.Tests.{ltb-true, lt-ltb, le-ltb, leb-true, le-leb, eq-eqb, eqb-true}
-use Rattle.base.specs.Tests.{both-l, both-r, both-i, either-e, pick, pick-yes}
-use Rattle.base.specs.Refusals.{needs}
-use Rattle.base.specs.Search.{every, every-true, every-intro, some, some-i, some-e, some-cong}
-use Rattle.base.specs.Count.{tally}
-use Rattle.base.specs.Bits.{only, only-i}
-use Rattle.world.specs.World.{size, count, rule, group, trust, counter, sequence, next, delivered, up, fifo-length, causal-length, held, marks, fifo, causal, sender, mask, stamp, number, flight, order, unused}
-use Rattle.world.specs.Sound.{Frame, frame, process, message, present, addressee, sends, word, item, logged-of, fit, fine, Sound}
-use Rattle.world.specs.Setup.{byte, fresh, setup-bits, setup-group, setup-has, good-setup, setup-refusal, made}
+use Rattle.base.specs.Tests.{both-l, both-r, both-i, either-e, pick-yes}
+use Rattle.definitions.specs.General.{pick, needs, every, some, tally, only, byte}
+use Rattle.base.specs.Search.{every-true, every-intro, some-i, some-e, some-cong}
+use Rattle.base.specs.Bits.{only-i}
+use Rattle.definitions.specs.World.{size, count, rule, group, trust, counter, sequence, next, delivered, up, fifo-length, causal-length, held, marks, fifo, causal, sender, mask, stamp, number, flight, order, unused}
+use Rattle.definitions.specs.Sound.{Frame, frame, process, message, present, addressee, sends, word, item, logged-of, fit, fine}
+use Rattle.world.specs.SoundLaws.{Sound}
+use Rattle.definitions.specs.Setup.{fresh, setup-bits, setup-group, setup-has, good-setup, setup-refusal, made}
 use Rattle.keeps.specs.Forms.{word-zero, bit-below}
 
 -- a word that is a where it is in use, and zero elsewhere

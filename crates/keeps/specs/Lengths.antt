@@ -10,9 +10,10 @@ use native.Mathlib.Omega.{arith}
 use lib.Dec.{ltb, leb}
 use borrow.Author.Tests.{ltb-true, lt-ltb, leb-true, le-leb, not-true}
 use Rattle.base.specs.Tests.{both-l, both-r}
-use Rattle.base.specs.Count.{In, in-at, absent, absent-in, absent-out, room-within}
-use Rattle.world.specs.World.{count, fifo-length, causal-length, fifo, causal, State}
-use Rattle.world.specs.Sound.{frame, process, message, addressee, word, item, fit, fine}
+use Rattle.definitions.specs.General.{In, in-at, absent}
+use Rattle.base.specs.Count.{absent-in, absent-out, room-within}
+use Rattle.definitions.specs.World.{count, fifo-length, causal-length, fifo, causal, State}
+use Rattle.definitions.specs.Sound.{frame, process, message, addressee, word, item, fit, fine}
 use Rattle.world.specs.SoundLaws.{word-in}
 use Rattle.keeps.specs.Forms.{word-to}
 

@@ -2,8 +2,8 @@
 use mathlib.Core.Path.{_≡_, refl, sym, ap, _∙_, fun-ext}
 use Prim.Native.Nat.{ℕ, _-_}
 use Rattle.base.specs.Loop.{loop-related}
-use Rattle.world.specs.World.{Cell, size, count, rule, group, trust, counter, sequence, next, delivered, up, fifo-length, causal-length, held, marks, fifo, causal, sender, mask, stamp, number, flight, order, unused, State, put}
-use Rattle.world.specs.Machine.{with-tables, deliverable, deliverable-at, merge, causal-one, causal-all, raised-next}
+use Rattle.definitions.specs.World.{Cell, size, count, rule, group, trust, counter, sequence, next, delivered, up, fifo-length, causal-length, held, marks, fifo, causal, sender, mask, stamp, number, flight, order, unused, State, put}
+use Rattle.definitions.specs.Machine.{with-tables, deliverable, deliverable-at, merge, causal-one, causal-all, raised-next}
 
 -- one causal delivery: each cell is the same
 next-first : (s : State) (p q i : ℕ) (c : Cell)

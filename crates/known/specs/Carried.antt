@@ -10,18 +10,17 @@ use lib.Dec.{eqb}
 use lib.ListN.{length}
 use borrow.Author.Tests.{eqb-true, ltb-true}
 use Rattle.base.specs.Tests.{clash, both-l, both-r}
-use Rattle.base.specs.Tabulate.{tabulate}
-use Rattle.block.specs.Block.{block, check-of}
-use Rattle.world.specs.World.{size, up, fifo-length, causal-length, fifo, causal, State, encode, view}
-use Rattle.world.specs.Sound.{Sound}
-use Rattle.world.specs.SoundLaws.{size-high}
-use Rattle.world.specs.Setup.{setup-refusal, made}
-use Rattle.world.specs.Steps.{read, is-process, is-up, refusal, after}
-use Rattle.world.specs.Settle.{Ending, done, stopped, settle}
-use Rattle.world.specs.Words.{gives, making-refusal, made-words, step-refusal, stepped-words, settled-words, settle-reply, log-words}
+use Rattle.definitions.specs.General.{tabulate}
+use Rattle.definitions.specs.Block.{block, check-of}
+use Rattle.definitions.specs.World.{size, up, fifo-length, causal-length, fifo, causal, State, encode, view}
+use Rattle.world.specs.SoundLaws.{Sound, size-high}
+use Rattle.definitions.specs.Setup.{setup-refusal, made}
+use Rattle.definitions.specs.Steps.{read, is-process, is-up, refusal, after}
+use Rattle.definitions.specs.Settle.{Ending, done, stopped}
+use Rattle.world.specs.SettleLaws.{settle}
+use Rattle.definitions.specs.Words.{gives, making-refusal, made-words, step-refusal, stepped-words, settled-words, settle-reply, log-words}
 use Rattle.keeps.specs.Keeps.{fresh-sound, after-sound, settle-sound}
-use Rattle.carried.specs.Calls.{view-agree}
-use Rattle.carried.specs.Calls.{refusal-carried, step-carried, making-carried, made-carried, log-carried}
+use Rattle.carried.specs.Calls.{view-agree, refusal-carried, step-carried, making-carried, made-carried, log-carried}
 use Rattle.carried.specs.Carried.{settle-carried, reply-carried}
 use Rattle.known.specs.Runs.{Line, takes, settles, shows, Row, plays, checks, same-list, same-flag, same-ending, lines-pass, row-passes, all-pass, table, known-runs}
 

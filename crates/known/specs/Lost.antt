@@ -14,17 +14,16 @@ use lib.Dec.{eqb}
 use lib.ListN.{length, getD}
 use borrow.Author.Tests.{eqb-true}
 use Rattle.base.specs.Tests.{clash, is-same}
-use Rattle.base.specs.Search.{every, every-true, some, first-from}
-use Rattle.base.specs.Count.{absent, in-at}
-use Rattle.base.specs.Tabulate.{tabulate}
-use Rattle.base.specs.Loop.{chosen, loop}
-use Rattle.base.specs.Bits.{bit, bit-zero, with, without, mask-of, only}
-use Rattle.world.specs.World.{size, count, causal-length, held, causal, flight, State, put}
-use Rattle.world.specs.Machine.{with-tables, addressed, ready, deliverable, deliverable-at, merge, causal-one, causal-all, appended, raised-next, due, send-ok, send-oks, fifo-one, cascade, raised, stamped, numbered, posted, multicast, leave, mark, hold, arrival, trust-set, crash}
-use Rattle.world.specs.Steps.{Step, multicasts, arrives, loses, trusts, crashes, malformed, read, has-group, good-mask, refusal, accepted, step}
-use Rattle.world.specs.Setup.{fresh, setup-bits, setup-group, setup-has, good-setup, setup-refusal, made}
-use Rattle.world.specs.Words.{log-words}
-use Rattle.world.specs.History.{casted, gained, deliveries, on-states, Run, Item, given, taken, tick, act, run, on-words, started, started-words, InForce}
+use Rattle.definitions.specs.General.{every, some, first-from, absent, in-at, tabulate, chosen, loop, bit, with, without, mask-of, only}
+use Rattle.base.specs.Search.{every-true}
+use Rattle.base.specs.Bits.{bit-zero}
+use Rattle.definitions.specs.World.{size, count, causal-length, held, causal, flight, State, put}
+use Rattle.definitions.specs.Machine.{with-tables, addressed, ready, deliverable, deliverable-at, merge, causal-one, causal-all, appended, raised-next, due, send-ok, send-oks, fifo-one, cascade, raised, stamped, numbered, posted, multicast, leave, mark, hold, arrival, trust-set, crash}
+use Rattle.definitions.specs.Steps.{Step, multicasts, arrives, loses, trusts, crashes, malformed, read, has-group, good-mask, refusal, accepted, step}
+use Rattle.definitions.specs.Setup.{fresh, setup-bits, setup-group, setup-has, good-setup, setup-refusal, made}
+use Rattle.definitions.specs.Words.{log-words, on-words, started-words}
+use Rattle.definitions.specs.History.{casted, gained, deliveries, Run, Item, given, taken, tick, act, run, InForce}
+use Rattle.world.specs.Runs.{on-states, started}
 use Rattle.keeps.specs.Keeps.{fresh-sound}
 use Rattle.effects.specs.Arrival.{Held, Fly}
 use Rattle.effects.specs.Holding.{lands, step-held, step-lasting}

@@ -7,19 +7,15 @@ use mathlib.Core.List.{List, [], _∷_, _++_}
 use Prim.Native.Nat.{ℕ, zero, suc}
 use native.Mathlib.Decide.{ℕ-discrete}
 use lib.Dec.{eqb}
-use Rattle.base.specs.Search.{every, some, first-from}
-use Rattle.base.specs.Count.{absent}
-use Rattle.base.specs.Loop.{chosen, loop}
-use Rattle.base.specs.Bits.{bit, with, without, mask-of, only}
-use Rattle.base.specs.Tabulate.{tab-from, tabulate}
-use Rattle.parts.specs.Parts.{filled}
-use Rattle.checksum.specs.Checksum.{ones-sum, checksum}
-use Rattle.block.specs.Block.{body, block, check-of}
-use Rattle.world.specs.World.{fifo-length, causal-length, fifo, causal, State, put}
-use Rattle.world.specs.Setup.{fresh, setup-bits, setup-group, setup-has, good-setup, setup-refusal, made}
-use Rattle.world.specs.Machine.{with-tables, ready, deliverable, deliverable-at, merge, causal-one, causal-all, appended, raised-next, due, send-ok, send-oks, fifo-one, cascade, raised, stamped, numbered, posted, multicast, leave, mark, hold, arrival, trust-set, crash}
-use Rattle.world.specs.Steps.{read, has-group, good-mask, is-process, is-up, refusal, step, after}
-use Rattle.world.specs.Settle.{moves, receiver, origin, kind, movable, letter-of, lowest, Ending, done, stopped, settle-from, settle}
+use Rattle.definitions.specs.General.{every, some, first-from, absent, chosen, loop, bit, with, without, mask-of, only, tab-from, tabulate, filled}
+use Rattle.definitions.specs.Checksum.{ones-sum, checksum}
+use Rattle.definitions.specs.Block.{body, block, check-of}
+use Rattle.definitions.specs.World.{fifo-length, causal-length, fifo, causal, State, put}
+use Rattle.definitions.specs.Setup.{fresh, setup-bits, setup-group, setup-has, good-setup, setup-refusal, made}
+use Rattle.definitions.specs.Machine.{with-tables, ready, deliverable, deliverable-at, merge, causal-one, causal-all, appended, raised-next, due, send-ok, send-oks, fifo-one, cascade, raised, stamped, numbered, posted, multicast, leave, mark, hold, arrival, trust-set, crash}
+use Rattle.definitions.specs.Steps.{read, has-group, good-mask, is-process, is-up, refusal, step, after}
+use Rattle.definitions.specs.Settle.{moves, receiver, origin, kind, movable, letter-of, lowest, Ending, done, stopped, settle-from}
+use Rattle.world.specs.SettleLaws.{settle}
 
 -- ---- a row, and its lines: each something done and what is to be seen of it
 pub data Line : Type 0 where
@@ -260,10 +256,21 @@ trust-cascades = plays pair 0
     ∷ shows 0 true (0 ∷ []) (0 ∷ [])
     ∷ [])
 
+-- ---- of a crashed sender: a settle leaves its letters, an arrival takes them; a down receiver (9) comes before
+-- what is not in flight (11)
+abbrev down-sender : Row
+down-sender = plays pair 0
+    (takes (multicasting 0 1) 0
+    ∷ takes (crashing 0) 0
+    ∷ settles 5 (done 0)
+    ∷ takes (arriving 0 0 0 1) 0
+    ∷ takes (arriving 1 0 1 0) 9
+    ∷ [])
+
 abbrev pub table : List Row
 table =
     run-1 ∷ run-2 ∷ run-3 ∷ run-4 ∷ run-5
-    ++ (run-6 ∷ run-7 ∷ run-8 ∷ ok-holds ∷ same-sender ∷ settled ∷ refusals ∷ trust-cascades ∷ [])
+    ++ (run-6 ∷ run-7 ∷ run-8 ∷ ok-holds ∷ same-sender ∷ settled ∷ refusals ∷ trust-cascades ∷ down-sender ∷ [])
 
 pub known-runs : all-pass table ≡ true
 unfolding ℕ-discrete lines-pass row-passes all-pass every some first-from absent chosen loop bit with

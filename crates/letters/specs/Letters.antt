@@ -1,5 +1,5 @@
 -- The letter that the code finds, as the choice of the definitions. Assumes nothing.
-use Rattle.world.specs.Settle.{Choice, letter, nothing}
+use Rattle.definitions.specs.Settle.{Choice, letter, nothing}
 use Rattle.letters.specs.declared.Letter.{Letter}
 use Rattle.letters.specs.declared.Letter.the-variants.{At, Nothing}
 

@@ -3,12 +3,10 @@
 ghost use mathlib.Core.Path.{_≡_};
 ghost use Prim.Native.Nat.{_≤_, _<_};
 ghost use lib.ListN.{length};
-ghost use Rattle.base.specs.Bits.{with, mask-of};
-ghost use Rattle.base.specs.Search.{first-from};
-ghost use Rattle.base.specs.Tests.{pick};
-ghost use Rattle.world.specs.World.{size, count, view};
-ghost use Rattle.world.specs.Steps.{is-up};
-ghost use Rattle.world.specs.Settle.{lowest};
+ghost use Rattle.definitions.specs.General.{with, mask-of, first-from, pick};
+ghost use Rattle.definitions.specs.World.{size, count, view};
+ghost use Rattle.definitions.specs.Steps.{is-up};
+ghost use Rattle.definitions.specs.Settle.{lowest};
 ghost use Rattle.letters.specs.Letters.{choice-of};
 ghost use Rattle.letters.specs.Search.{waiting};
 ghost use Rattle.letters.specs.Places.{Passed, sends-ok, next-place};

@@ -10,10 +10,11 @@ use lib.Dec.{ltb}
 use lib.ListN.{length, getD, set}
 use lib.Seq.{getD-set-same, getD-set-other}
 use borrow.Author.Tests.{ltb-true, ltb-false, lt-ltb, le-ltb}
-use Rattle.base.specs.Tests.{pick, both-l}
-use Rattle.base.specs.Bits.{bit, bit-zero, with, mask-of, bit-mask-of, bit-mask-of-above}
-use Rattle.world.specs.World.{State, size, count, group, mask}
-use Rattle.world.specs.Sound.{frame, process, message, addressee, fit, fine}
+use Rattle.definitions.specs.General.{pick, bit, with, mask-of}
+use Rattle.base.specs.Tests.{both-l}
+use Rattle.base.specs.Bits.{bit-zero, bit-mask-of, bit-mask-of-above}
+use Rattle.definitions.specs.World.{State, size, count, group, mask}
+use Rattle.definitions.specs.Sound.{frame, process, message, addressee, fit, fine}
 use Rattle.world.specs.SoundLaws.{word-le}
 use Rattle.heads.specs.Known.{Placed}
 

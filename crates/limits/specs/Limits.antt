@@ -9,10 +9,9 @@ use lib.Dec.{ltb, leb, eqb}
 use lib.ListN.{length, getD, set}
 use lib.Seq.{getD-set-same, getD-set-other}
 use borrow.Author.Tests.{eq-eqb, ne-eqb, le-leb, lt-leb}
-use Rattle.base.specs.Tests.{pick}
-use Rattle.base.specs.Bits.{bit}
-use Rattle.world.specs.World.{State, size}
-use Rattle.world.specs.Sound.{frame, process, present, word}
+use Rattle.definitions.specs.General.{pick, bit}
+use Rattle.definitions.specs.World.{State, size}
+use Rattle.definitions.specs.Sound.{frame, process, present, word}
 use Rattle.heads.specs.Known.{Grouped}
 
 -- What place i counts for exists, of n processes and these groups.

@@ -3,9 +3,8 @@
 ghost use mathlib.Core.Path.{_≡_};
 ghost use Prim.Native.Nat.{_<_};
 ghost use lib.ListN.{length};
-ghost use Rattle.base.specs.Tests.{pick};
-ghost use Rattle.base.specs.Bits.{bit};
-ghost use Rattle.world.specs.World.{view};
+ghost use Rattle.definitions.specs.General.{pick, bit};
+ghost use Rattle.definitions.specs.World.{view};
 ghost use Rattle.heads.specs.Known.{Sized, Placed};
 ghost use Rattle.limits.specs.Limits.{used-at, limit-at, Limits};
 ghost use Rattle.limits.specs.Members.{Members, Joined};

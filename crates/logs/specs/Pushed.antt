@@ -5,10 +5,10 @@ use mathlib.Core.List.{List}
 use Prim.Native.Nat.{ℕ, _+_, _*_, _≤_, _<_}
 use native.Mathlib.Omega.{arith}
 use lib.ListN.{getD, set}
-use Rattle.base.specs.Tests.{pick}
-use Rattle.world.specs.World.{Cell, fifo-length, causal-length, fifo, causal, addr, Within, State, put, encode, view, Changes}
-use Rattle.world.specs.Layout.{set-encode, reads-cell}
-use Rattle.world.specs.Words.{log-length, log-start}
+use Rattle.definitions.specs.General.{pick}
+use Rattle.definitions.specs.World.{Cell, fifo-length, causal-length, fifo, causal, addr, State, put, encode, view}
+use Rattle.world.specs.Layout.{Within, Changes, set-encode, reads-cell}
+use Rattle.definitions.specs.Words.{log-length, log-start}
 
 -- item i of the log of p, and its length
 abbrev pub item-cell : ℕ → Bool → ℕ → Cell

@@ -11,9 +11,10 @@ use lib.Dec.{ltb, leb, eqb}
 use lib.ListN.{length, getD, set, List·getD-eq-default}
 use lib.Seq.{getD-set-same, getD-set-other}
 use borrow.Author.Tests.{eq-eqb, ne-eqb, eqb-true, ltb-true, ltb-false, lt-ltb, le-leb, leb-true}
-use Rattle.base.specs.Tests.{pick, clash, both-l, both-r, both-i, same}
-use Rattle.base.specs.Search.{every, every-true, every-intro}
-use Rattle.base.specs.Count.{tally, tally-zero, tally-cong, tally-falls, tally-pos, in-at, absent, absent-in, absent-out, out-absent}
+use Rattle.definitions.specs.General.{pick, every, tally, in-at, absent}
+use Rattle.base.specs.Tests.{clash, both-l, both-r, both-i, same}
+use Rattle.base.specs.Search.{every-true, every-intro}
+use Rattle.base.specs.Count.{tally-zero, tally-cong, tally-falls, tally-pos, absent-in, absent-out, out-absent}
 use Rattle.ranges.specs.Ranges.{within-at}
 use Rattle.logtest.specs.Log.{Counts, Flags, item-ok}
 

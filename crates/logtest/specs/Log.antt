@@ -5,8 +5,7 @@ use mathlib.Core.List.{List}
 use Prim.Native.Nat.{ℕ, _+_, _-_, _%_, _≤_, _<_}
 use lib.Dec.{ltb, eqb}
 use lib.ListN.{length, getD}
-use Rattle.base.specs.Search.{every}
-use Rattle.base.specs.Count.{tally, absent}
+use Rattle.definitions.specs.General.{every, tally, absent}
 use Rattle.ranges.specs.Ranges.{zeros-at, within-at}
 
 -- The items of the log that stands from a on.

@@ -5,9 +5,9 @@ use mathlib.Core.List.{List}
 use Prim.Native.Nat.{ℕ}
 use lib.ListN.{length, set, replicate}
 use borrow.Author.Tests.{eq-eqb, ne-eqb}
-use Rattle.world.specs.World.{encode}
-use Rattle.world.specs.Setup.{good-setup, setup-refusal, made}
-use Rattle.world.specs.Words.{making-refusal, made-words}
+use Rattle.definitions.specs.World.{encode}
+use Rattle.definitions.specs.Setup.{good-setup, setup-refusal, made}
+use Rattle.definitions.specs.Words.{making-refusal, made-words}
 use Rattle.making.specs.Begun.{begun, begun-none}
 
 -- words that were cleared, with n in the first

@@ -1,17 +1,18 @@
 // Making a world from a setup record.
+use definitions::Outcome;
+use definitions::Refusal;
 use records::Process;
-use world::Outcome;
-use world::Refusal;
 ghost use mathlib.Core.Bool.{true};
 ghost use mathlib.Core.Path.{_≡_};
 ghost use Prim.Native.Nat.{_-_, _^_, _≤_, _<_};
 ghost use lib.Dec.{ltb};
 ghost use lib.ListN.{length};
-ghost use Rattle.base.specs.Tests.{pick};
-ghost use Rattle.world.specs.World.{encode, Changes};
-ghost use Rattle.world.specs.Setup.{good-setup, made};
-ghost use Rattle.world.specs.Words.{making-refusal, made-words};
-ghost use Rattle.world.specs.Answers.{outcome-number};
+ghost use Rattle.definitions.specs.General.{pick};
+ghost use Rattle.definitions.specs.World.{encode};
+ghost use Rattle.world.specs.Layout.{Changes};
+ghost use Rattle.definitions.specs.Setup.{good-setup, made};
+ghost use Rattle.definitions.specs.Words.{making-refusal, made-words};
+ghost use Rattle.definitions.specs.Answers.{outcome-number};
 ghost use Rattle.setup.specs.Groups.{group-in};
 ghost use Rattle.making.specs.Begun.{begun, first-nexts, begin-process};
 

@@ -10,10 +10,8 @@ use lib.Arith.{lt-one}
 use lib.Pow.{shr-shr, shr-lt}
 use lib.Dec.{eqb, lit<}
 use lib.Count.{ones, onesIn, ones-step, trailingZeros, under}
-use Rattle.base.specs.Tests.{pick}
-use Rattle.base.specs.Search.{first-from}
-use Rattle.base.specs.Count.{tally, tally-cong}
-use Rattle.base.specs.Bits.{bit}
+use Rattle.definitions.specs.General.{pick, first-from, tally, bit}
+use Rattle.base.specs.Count.{tally-cong}
 
 -- a binary digit is 1 or 0
 digit : (d : ℕ) → d < 2 → d ≡ pick (eqb d 1) 1 0

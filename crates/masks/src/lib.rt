@@ -1,9 +1,7 @@
 // Masks of 16 bits: a bit tested, set and cleared, the ones counted, and the lowest one.
 ghost use mathlib.Core.Path.{_≡_};
 ghost use Prim.Native.Nat.{_<_};
-ghost use Rattle.base.specs.Search.{first-from};
-ghost use Rattle.base.specs.Count.{tally};
-ghost use Rattle.base.specs.Bits.{bit, with, without};
+ghost use Rattle.definitions.specs.General.{first-from, tally, bit, with, without};
 
 // Whether bit p is set.
 pub fn test(m: u16, p: usize) -> bool

@@ -13,10 +13,9 @@ use lib.Dec.{ltb}
 use borrow.Author.Tests.{ltb-true, ltb-false}
 use lib.ListN.{length, getD, set, length-set, List·getD-eq-default}
 use lib.Seq.{getD-set-same, getD-set-other, set-out}
-use Rattle.base.specs.Tests.{pick}
-use Rattle.base.specs.Bits.{bit}
-use Rattle.base.specs.Tabulate.{tabulate, length-tabulate, getD-tabulate}
-use Rattle.world.specs.World.{counter, sequence, State}
+use Rattle.definitions.specs.General.{pick, bit, tabulate}
+use Rattle.base.specs.Tabulate.{length-tabulate, getD-tabulate}
+use Rattle.definitions.specs.World.{counter, sequence, State}
 use Rattle.records.specs.declared.Process.{Process}
 
 -- ---- entries of a list raised

@@ -3,10 +3,10 @@
 ghost use mathlib.Core.Path.{_≡_};
 ghost use Prim.Native.Nat.{_<_};
 ghost use lib.ListN.{length};
-ghost use Rattle.base.specs.Bits.{bit};
-ghost use Rattle.base.specs.Tests.{pick};
-ghost use Rattle.world.specs.World.{count, view, encode, Changes};
-ghost use Rattle.world.specs.Machine.{numbered, multicast};
+ghost use Rattle.definitions.specs.General.{bit, pick};
+ghost use Rattle.definitions.specs.World.{count, view, encode};
+ghost use Rattle.world.specs.Layout.{Changes};
+ghost use Rattle.definitions.specs.Machine.{numbered, multicast};
 ghost use Rattle.bounds.specs.Bounds.{Bounds};
 ghost use Rattle.multicasts.specs.Raise.{Below, raised-one, raised-below, Low};
 ghost use Rattle.multicasts.specs.Multicast.{with-stamps, with-copy};

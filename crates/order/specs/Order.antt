@@ -10,11 +10,13 @@ use Prim.Native.Nat.{ℕ, _+_, _≤_, _<_}
 use native.Mathlib.Omega.{arith}
 use native.Mathlib.Decide.{ℕ-discrete}
 use Rattle.base.specs.Tests.{le-or-lt, strong, both, both-l, both-r, both-i}
-use Rattle.base.specs.Count.{tally-mono, Last, never, last-at, last-of, In, in-at}
-use Rattle.world.specs.World.{count, group, counter, sequence, next, delivered, fifo-length, causal-length, fifo, causal, sender, stamp, number, State}
-use Rattle.world.specs.Machine.{addressed}
-use Rattle.world.specs.Setup.{setup-refusal}
-use Rattle.world.specs.History.{Event, sent, At, Before, Run, Item, on-states, run, started}
+use Rattle.base.specs.Count.{tally-mono, Last, never, last-at, last-of}
+use Rattle.definitions.specs.General.{In, in-at}
+use Rattle.definitions.specs.World.{count, group, counter, sequence, next, delivered, fifo-length, causal-length, fifo, causal, sender, stamp, number, State}
+use Rattle.definitions.specs.Machine.{addressed}
+use Rattle.definitions.specs.Setup.{setup-refusal}
+use Rattle.definitions.specs.History.{Event, sent, At, Before, Run, Item, run}
+use Rattle.world.specs.Runs.{on-states, started}
 use Rattle.effects.specs.Views.{Messages, messages, Process, process}
 use Rattle.order.specs.Knowledge.{Knowledge, knowledge}
 use Rattle.order.specs.Precedence.{cast-at, cast-there, precedes-before, before-precedes}

@@ -12,7 +12,7 @@ use lib.ListN.{length, take, drop, getD, replicate, length-append, length-replic
 use lib.Seq.{take-suc, take-length, take-at, length-take-le}
 use borrow.Author.Tests.{eq-eqb, ne-eqb, eqb-true}
 use Rattle.base.specs.Tests.{both-l, both-r}
-use Rattle.parts.specs.Parts.{filled, all-zero}
+use Rattle.definitions.specs.General.{filled, all-zero}
 
 pub length-filled : (n : ℕ) (s : List ℕ) → length s ≤ n → length (filled n s) ≡ n
 unfolding filled

@@ -2,7 +2,7 @@
 ghost use mathlib.Core.Path.{_≡_};
 ghost use Prim.Native.Nat.{_≤_};
 ghost use lib.ListN.{length, replicate};
-ghost use Rattle.parts.specs.Parts.{filled, all-zero};
+ghost use Rattle.definitions.specs.General.{filled, all-zero};
 
 // A byte as a number of the machine's width.
 pub fn wide(x: u8) -> usize

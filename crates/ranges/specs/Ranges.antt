@@ -4,7 +4,7 @@ use mathlib.Core.List.{List}
 use Prim.Native.Nat.{ℕ, _+_}
 use lib.Dec.{leb, eqb}
 use lib.ListN.{getD}
-use Rattle.base.specs.Search.{every}
+use Rattle.definitions.specs.General.{every}
 
 -- The n words of w from a on are zero.
 unfoldable pub zeros-at : List ℕ → ℕ → ℕ → Bool

@@ -8,14 +8,14 @@ use native.Mathlib.Omega.{arith}
 use lib.Dec.{eqb, ltb}
 use lib.ListN.{length, take, drop}
 use borrow.Author.Tests.{eq-eqb, ne-eqb, lt-ltb, le-ltb, eqb-true, ltb-true}
-use Rattle.base.specs.Tests.{pick}
-use Rattle.base.specs.Refusals.{needs, needs-none}
-use Rattle.world.specs.World.{size, encode, view}
+use Rattle.definitions.specs.General.{pick, needs}
+use Rattle.base.specs.Refusals.{needs-none}
+use Rattle.definitions.specs.World.{size, encode, view}
 use Rattle.world.specs.Layout.{encode-view}
-use Rattle.world.specs.Sound.{sound}
+use Rattle.definitions.specs.Sound.{sound}
 use Rattle.world.specs.SoundLaws.{sound-facts, size-high, count-high, fifo-length-high, causal-length-high}
-use Rattle.world.specs.Steps.{read, refusal, accepted, step, after, is-process}
-use Rattle.world.specs.Words.{needs-world, gives, refuses, step-words, step-refusal, stepped-words, settle-words, settled-words, settle-reply, log-length, log-start, log-refusal, log-words, length-reply}
+use Rattle.definitions.specs.Steps.{read, refusal, accepted, step, after, is-process}
+use Rattle.definitions.specs.Words.{needs-world, gives, refuses, step-words, step-refusal, stepped-words, settle-words, settled-words, settle-reply, log-length, log-start, log-refusal, log-words, length-reply}
 use Rattle.keeps.specs.Keeps.{SoundWords}
 
 -- ---- the world

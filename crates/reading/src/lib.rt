@@ -1,10 +1,10 @@
 // Words that are lent as a world, tested; and the logs of a world read. Neither asks anything of its caller.
-use world::LogLength;
-use world::Outcome;
-use world::Refusal;
+use definitions::LogLength;
+use definitions::Outcome;
+use definitions::Refusal;
 ghost use mathlib.Core.Path.{_≡_};
-ghost use Rattle.world.specs.Words.{needs-world, log-words, length-reply};
-ghost use Rattle.world.specs.Answers.{outcome-number, log-length-reply};
+ghost use Rattle.definitions.specs.Words.{needs-world, log-words, length-reply};
+ghost use Rattle.definitions.specs.Answers.{outcome-number, log-length-reply};
 
 // Whether the words are a sound world: 1, then 2.
 pub fn tested(w: &[u16]) -> Outcome

@@ -9,13 +9,13 @@ use lib.Dec.{ltb, eqb}
 use borrow.Author.Tests.{lt-ltb, le-ltb, ltb-true, eqb-true, eq-eqb, ne-eqb, not-true}
 use mathlib.Core.Logic.{_⊎_, inl, inr}
 use Rattle.base.specs.Tests.{bool-cases, same, both, both-l, both-r, either}
-use Rattle.base.specs.Bits.{bit, differs, bit-and, bit-xor, bit-mask-of, bit-mask-of-above}
-use Rattle.base.specs.Search.{every, every-true, every-intro, every-fails, every-cong, first-from, first-law, first-cong}
-use Rattle.base.specs.Count.{tally, tally-past, tally-zero, tally-cong, tally-pos, absent}
-use Rattle.base.specs.Loop.{chosen}
-use Rattle.world.specs.World.{size, count, trust, fifo-length, held, marks, fifo, sender, State, encode, view, Reads}
-use Rattle.world.specs.Layout.{get-encode, reads-cell}
-use Rattle.world.specs.Machine.{addressed, addressees, in-turn, outside-fifo, marked, ready, fifo-one}
+use Rattle.definitions.specs.General.{bit, every, first-from, tally, absent, chosen}
+use Rattle.base.specs.Bits.{differs, bit-and, bit-xor, bit-mask-of, bit-mask-of-above}
+use Rattle.base.specs.Search.{every-true, every-intro, every-fails, every-cong, first-law, first-cong}
+use Rattle.base.specs.Count.{tally-past, tally-zero, tally-cong, tally-pos}
+use Rattle.definitions.specs.World.{size, count, trust, fifo-length, held, marks, fifo, sender, State, encode, view}
+use Rattle.world.specs.Layout.{Reads, get-encode, reads-cell}
+use Rattle.definitions.specs.Machine.{addressed, addressees, in-turn, outside-fifo, marked, ready, fifo-one}
 use Rattle.bounds.specs.Bounds.{Bounds, bounds-state}
 use Rattle.quiescence.specs.Quiescent.{Quiescent}
 use Rattle.quiescence.specs.Turn.{OneSender, OneSenderIf}

@@ -3,10 +3,10 @@ ghost use mathlib.Core.Bool.{_&&_};
 ghost use mathlib.Core.Path.{_≡_};
 ghost use Prim.Native.Nat.{_<_};
 ghost use lib.ListN.{length};
-ghost use Rattle.base.specs.Search.{every, first-from};
-ghost use Rattle.base.specs.Count.{tally};
-ghost use Rattle.world.specs.World.{size, count, held, view, Reads};
-ghost use Rattle.world.specs.Machine.{marked, ready};
+ghost use Rattle.definitions.specs.General.{every, first-from, tally};
+ghost use Rattle.definitions.specs.World.{size, count, held, view};
+ghost use Rattle.world.specs.Layout.{Reads};
+ghost use Rattle.definitions.specs.Machine.{marked, ready};
 ghost use Rattle.bounds.specs.Bounds.{Bounds};
 ghost use Rattle.ready.specs.Ready.{trusted-unmarked, waits-lowest, unmarked, cleared, searched};
 

@@ -6,11 +6,10 @@ use Prim.Native.Nat.{ℕ, _<_}
 use lib.Dec.{eqb}
 use borrow.Author.Tests.{eq-eqb, ne-eqb}
 use lib.ListN.{length, set}
-use Rattle.base.specs.Bits.{with, without}
-use Rattle.base.specs.Tests.{pick}
-use Rattle.world.specs.World.{held, marks, flight, addr, State, put, encode, view, Reads, Changes}
-use Rattle.world.specs.Layout.{set-encode, reads-cell}
-use Rattle.world.specs.Machine.{addressees, in-turn, leave, mark, hold}
+use Rattle.definitions.specs.General.{with, without, pick}
+use Rattle.definitions.specs.World.{held, marks, flight, addr, State, put, encode, view}
+use Rattle.world.specs.Layout.{Reads, Changes, set-encode, reads-cell}
+use Rattle.definitions.specs.Machine.{addressees, in-turn, leave, mark, hold}
 use Rattle.bounds.specs.Bounds.{Bounds, bounds-state, bounds-stored}
 use Rattle.sends.specs.Sends.{sent, in-turn-words}
 

@@ -4,9 +4,10 @@ ghost use mathlib.Core.Path.{_≡_};
 ghost use Prim.Native.Nat.{_<_};
 ghost use lib.Dec.{eqb};
 ghost use lib.ListN.{length};
-ghost use Rattle.base.specs.Tests.{pick};
-ghost use Rattle.world.specs.World.{held, view, Reads, Changes};
-ghost use Rattle.world.specs.Machine.{leave, mark, hold};
+ghost use Rattle.definitions.specs.General.{pick};
+ghost use Rattle.definitions.specs.World.{held, view};
+ghost use Rattle.world.specs.Layout.{Reads, Changes};
+ghost use Rattle.definitions.specs.Machine.{leave, mark, hold};
 ghost use Rattle.bounds.specs.Bounds.{Bounds};
 
 // The letter leaves flight.

@@ -3,7 +3,7 @@
 ghost use mathlib.Core.Path.{_≡_};
 ghost use Prim.Native.Nat.{_+_, _<_};
 ghost use lib.ListN.{length};
-ghost use Rattle.world.specs.World.{Reads, Changes};
+ghost use Rattle.world.specs.Layout.{Reads, Changes};
 ghost use Rattle.records.specs.Record.{record-of, with-record, with-delivery};
 
 // The record: C as 8 rows of 16, b, next and del.

@@ -7,16 +7,16 @@ use native.Mathlib.Omega.{arith}
 use lib.Dec.{ltb, eqb}
 use lib.Pow.{pow-pos}
 use borrow.Author.Tests.{eq-eqb, ne-eqb, ltb-true, ltb-false}
-use Rattle.base.specs.Tests.{pick, both, both-l, both-r}
-use Rattle.base.specs.Bits.{bit, only}
-use Rattle.world.specs.World.{size, count, State}
-use Rattle.base.specs.Refusals.{needs, or-else, needs-none}
-use Rattle.world.specs.Steps.{has-group, good-mask, is-process, is-message, is-up, in-flight, refusal, multicasts, arrives, loses}
-use Rattle.world.specs.Answers.{refusal-number, outcome-number}
-use Rattle.world.specs.declared.Refusal.{Refusal}
-use Rattle.world.specs.declared.Refusal.the-variants.{WorldLength, WorldUnsound, BadSetup, Malformed, NoProcess, BadMask, NoMessage, BadTrust, Down, Full, NotInFlight, BothUp}
-use Rattle.world.specs.declared.Outcome.{Outcome}
-use Rattle.world.specs.declared.Outcome.the-variants.{Taken, Refused}
+use Rattle.definitions.specs.General.{pick, bit, only, needs, or-else}
+use Rattle.base.specs.Tests.{both, both-l, both-r}
+use Rattle.definitions.specs.World.{size, count, State}
+use Rattle.base.specs.Refusals.{needs-none}
+use Rattle.definitions.specs.Steps.{has-group, good-mask, is-process, is-message, is-up, in-flight, refusal, multicasts, arrives, loses}
+use Rattle.definitions.specs.Answers.{refusal-number, outcome-number}
+use Rattle.definitions.specs.declared.Refusal.{Refusal}
+use Rattle.definitions.specs.declared.Refusal.the-variants.{WorldLength, WorldUnsound, BadSetup, Malformed, NoProcess, BadMask, NoMessage, BadTrust, Down, Full, NotInFlight, BothUp}
+use Rattle.definitions.specs.declared.Outcome.{Outcome}
+use Rattle.definitions.specs.declared.Outcome.the-variants.{Taken, Refused}
 use Rattle.bounds.specs.Bounds.{Bounds}
 
 -- the test fails, or passes and what follows decides

@@ -1,16 +1,15 @@
 // Which steps are refused, and why: the lowest number first. Nothing is changed.
-use world::Outcome;
-use world::Refusal;
+use definitions::Outcome;
+use definitions::Refusal;
 ghost use mathlib.Core.Path.{_≡_};
 ghost use mathlib.Core.Bool.{not, _&&_, _||_};
 ghost use Prim.Native.Nat.{_^_, _≤_, _<_};
 ghost use lib.Dec.{ltb};
 ghost use lib.ListN.{length};
-ghost use Rattle.base.specs.Tests.{pick};
-ghost use Rattle.base.specs.Bits.{bit, only};
-ghost use Rattle.world.specs.World.{view};
-ghost use Rattle.world.specs.Steps.{multicasts, arrives, loses, trusts, crashes, has-group, good-mask, is-up, in-flight, refusal};
-ghost use Rattle.world.specs.Answers.{refusal-number, outcome-number};
+ghost use Rattle.definitions.specs.General.{pick, bit, only};
+ghost use Rattle.definitions.specs.World.{view};
+ghost use Rattle.definitions.specs.Steps.{multicasts, arrives, loses, trusts, crashes, has-group, good-mask, is-up, in-flight, refusal};
+ghost use Rattle.definitions.specs.Answers.{refusal-number, outcome-number};
 ghost use Rattle.bounds.specs.Bounds.{Bounds};
 ghost use Rattle.refusals.specs.Refused.{process-refusal, operands-refusal};
 

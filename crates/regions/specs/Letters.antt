@@ -9,11 +9,11 @@ use lib.Bits.{bitAnd}
 use lib.Dec.{eqb}
 use lib.ListN.{getD}
 use borrow.Author.Tests.{eq-eqb, ne-eqb, eqb-true, lt-ltb}
-use Rattle.base.specs.Tests.{pick, same}
-use Rattle.base.specs.Search.{every}
-use Rattle.base.specs.Bits.{bit, bit-zero, with, bit-with, only}
-use Rattle.world.specs.World.{State, count, sender, flight, view}
-use Rattle.world.specs.Sound.{frame, message, addressee, sends, word, fit, fine}
+use Rattle.definitions.specs.General.{pick, every, bit, with, only}
+use Rattle.base.specs.Tests.{same}
+use Rattle.base.specs.Bits.{bit-zero, bit-with}
+use Rattle.definitions.specs.World.{State, count, sender, flight, view}
+use Rattle.definitions.specs.Sound.{frame, message, addressee, sends, word, fit, fine}
 use Rattle.limits.specs.Addressees.{addressees-of, addressee-bit}
 use Rattle.regions.specs.Runs.{fine-run, run-of}
 use Rattle.regions.specs.Rows.{addressees-only}

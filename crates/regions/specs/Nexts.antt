@@ -11,11 +11,10 @@ use lib.Dec.{ltb, eqb}
 use lib.ListN.{length, getD, set}
 use lib.Seq.{getD-set-same, getD-set-other}
 use borrow.Author.Tests.{eq-eqb, ne-eqb, lt-ltb}
-use Rattle.base.specs.Tests.{pick}
-use Rattle.base.specs.Search.{every}
-use Rattle.base.specs.Count.{tally, tally-le}
-use Rattle.world.specs.World.{size, next, fifo-length, view}
-use Rattle.world.specs.Sound.{frame, process, word, logged-of, fit, fine}
+use Rattle.definitions.specs.General.{pick, every, tally}
+use Rattle.base.specs.Count.{tally-le}
+use Rattle.definitions.specs.World.{size, next, fifo-length, view}
+use Rattle.definitions.specs.Sound.{frame, process, word, logged-of, fit, fine}
 use Rattle.regions.specs.Runs.{fine-run, run-of}
 use Rattle.regions.specs.Rows.{Block}
 

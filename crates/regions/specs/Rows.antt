@@ -7,11 +7,11 @@ use Prim.Native.Nat.{ℕ, _+_, _*_, _^_, _<_}
 use lib.Bits.{bitAnd}
 use lib.Dec.{leb, eqb}
 use lib.ListN.{length, getD}
-use Rattle.base.specs.Tests.{pick, both, both-l}
-use Rattle.base.specs.Search.{every, every-cong}
-use Rattle.base.specs.Bits.{bit, only}
-use Rattle.world.specs.World.{State, size, held, marks, view}
-use Rattle.world.specs.Sound.{frame, message, addressee, word, fit, fine}
+use Rattle.definitions.specs.General.{pick, every, bit, only}
+use Rattle.base.specs.Tests.{both, both-l}
+use Rattle.base.specs.Search.{every-cong}
+use Rattle.definitions.specs.World.{State, size, held, marks, view}
+use Rattle.definitions.specs.Sound.{frame, message, addressee, word, fit, fine}
 use Rattle.ranges.specs.Sets.{subset-only}
 use Rattle.limits.specs.Addressees.{Addressees, addressees-of, addressee-bit}
 use Rattle.regions.specs.Runs.{fine-run, run-of, every-both}

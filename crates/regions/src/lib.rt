@@ -2,7 +2,7 @@
 ghost use mathlib.Core.Path.{_≡_};
 ghost use Prim.Native.Nat.{_+_, _≤_, _<_};
 ghost use lib.ListN.{length};
-ghost use Rattle.world.specs.World.{view};
+ghost use Rattle.definitions.specs.World.{view};
 ghost use Rattle.limits.specs.Addressees.{Addressees};
 ghost use Rattle.regions.specs.Rows.{Block, row-ok, rows-fine};
 ghost use Rattle.regions.specs.Letters.{letter-ok, letters-at};

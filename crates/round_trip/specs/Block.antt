@@ -9,11 +9,12 @@ use native.Mathlib.Omega.{arith}
 use lib.ListN.{length, getD, take, drop, replicate, length-drop, length-replicate, take-append-drop, drop-of-length-le, replicate-append-replicate}
 use lib.Seq.{take-at, drop-at, drop-cons, drop-drop, getD-at, getD-append-add, length-take-le}
 use borrow.Author.Tests.{eq-eqb}
-use Rattle.parts.specs.Parts.{filled, Bytes}
+use Rattle.definitions.specs.General.{filled}
+use Rattle.parts.specs.Parts.{Bytes}
 use Rattle.parts.specs.Laws.{zeros-are, replicate-zero}
-use Rattle.checksum.specs.Checksum.{checksum}
+use Rattle.definitions.specs.Checksum.{checksum}
 use Rattle.checksum.specs.Laws.{checksum-front}
-use Rattle.block.specs.Block.{body, block, count-of, records-in, unused-in, right-check, right-count, right-form, block-refusal}
+use Rattle.definitions.specs.Block.{body, block, count-of, records-in, unused-in, right-check, right-count, right-form, block-refusal}
 use Rattle.block.specs.Laws.{length-body, count-small, Formed, taken, length-records-in}
 
 -- ---- the decomposition

@@ -7,9 +7,9 @@ use Prim.Native.Nat.{ℕ}
 use lib.Dec.{eqb}
 use lib.ListN.{length}
 use borrow.Author.Tests.{eqb-true}
-use Rattle.base.specs.Tests.{pick}
+use Rattle.definitions.specs.General.{pick}
 use Rattle.parts.specs.Parts.{Bytes}
-use Rattle.journal.specs.Journal.{write-refusal, written, read-refusal, read-out}
+use Rattle.definitions.specs.Journal.{write-refusal, written, read-refusal, read-out}
 use Rattle.round_trip.specs.Journal.{write-then-read, read-then-write}
 
 -- Writing rs to `out` is taken, and so is reading it back to `back`.

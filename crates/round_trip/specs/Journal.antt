@@ -10,11 +10,12 @@ use lib.Dec.{ltb, eqb}
 use lib.ListN.{length, getD, take, drop, length-append, length-drop, length-take, take-append-drop, drop-of-length-le, List·getD-eq-default}
 use lib.Seq.{take-all, take-at, drop-at, length-take-le, getD-drop, getD-take}
 use borrow.Author.Tests.{eq-eqb, ne-eqb, le-leb, ltb-true, ltb-false}
-use Rattle.base.specs.Refusals.{needs, needs-none, or-else-none}
+use Rattle.definitions.specs.General.{needs}
+use Rattle.base.specs.Refusals.{needs-none, or-else-none}
 use Rattle.parts.specs.Parts.{Bytes}
-use Rattle.block.specs.Block.{block, count-of, records-in, right-count, block-refusal}
+use Rattle.definitions.specs.Block.{block, count-of, records-in, right-count, block-refusal}
 use Rattle.block.specs.Laws.{length-block, count-small, count-full, taken, length-records-in}
-use Rattle.journal.specs.Journal.{blocks-of, blocks-for, journal-of, right-records, write-refusal, written, right-length, blocks-refusal, journal-refusal, records-from, records-of, read-refusal, read-out}
+use Rattle.definitions.specs.Journal.{blocks-of, blocks-for, journal-of, right-records, write-refusal, written, right-length, blocks-refusal, journal-refusal, records-from, records-of, read-refusal, read-out}
 use Rattle.journal.specs.Writing.{RightRecords, records-right, right-of}
 use Rattle.journal.specs.Reading.{accepted, whole-records}
 use Rattle.round_trip.specs.Block.{records-back, block-good, block-back}

@@ -3,7 +3,7 @@ use journal::ReadBack;
 use journal::Written;
 ghost use mathlib.Core.Path.{_≡_};
 ghost use lib.Dec.{eqb};
-ghost use Rattle.base.specs.Tests.{pick};
+ghost use Rattle.definitions.specs.General.{pick};
 ghost use Rattle.journal.specs.Answers.{of-written, of-read};
 ghost use Rattle.round_trip.specs.Calls.{both-written, both-read};
 

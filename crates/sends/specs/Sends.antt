@@ -9,13 +9,13 @@ use native.Mathlib.Omega.{arith}
 use lib.Dec.{eqb}
 use borrow.Author.Tests.{eq-eqb, ne-eqb}
 use lib.ListN.{set}
-use Rattle.base.specs.Bits.{bit, with, mask-of, mask-of-cong}
-use Rattle.base.specs.Tests.{pick, both, either}
-use Rattle.base.specs.Search.{some}
+use Rattle.definitions.specs.General.{bit, with, mask-of, pick, some}
+use Rattle.base.specs.Bits.{mask-of-cong}
+use Rattle.base.specs.Tests.{both, either}
 use Rattle.ranges.specs.Laws.{some-none, some-next}
-use Rattle.world.specs.World.{size, group, next, held, sender, mask, number, flight, addr, State, put, encode, view, Reads, Changes}
-use Rattle.world.specs.Layout.{get-encode, set-encode}
-use Rattle.world.specs.Machine.{addressed, addressees, in-turn, due, send-ok, send-oks}
+use Rattle.definitions.specs.World.{size, group, next, held, sender, mask, number, flight, addr, State, put, encode, view}
+use Rattle.world.specs.Layout.{Reads, Changes, get-encode, set-encode}
+use Rattle.definitions.specs.Machine.{addressed, addressees, in-turn, due, send-ok, send-oks}
 use Rattle.bounds.specs.Bounds.{Bounds, bounds-state}
 
 -- s with letters of kind k for m from p in flight to all addressees

@@ -3,11 +3,10 @@ ghost use mathlib.Core.Path.{_≡_};
 ghost use Prim.Native.Nat.{_+_, _<_};
 ghost use lib.ListN.{length};
 ghost use lib.Bits.{bitAnd};
-ghost use Rattle.base.specs.Bits.{with};
-ghost use Rattle.base.specs.Tests.{pick};
-ghost use Rattle.base.specs.Search.{some};
-ghost use Rattle.world.specs.Machine.{addressed, addressees, in-turn, due, send-ok, send-oks};
-ghost use Rattle.world.specs.World.{Reads, Changes, view, count};
+ghost use Rattle.definitions.specs.General.{with, pick, some};
+ghost use Rattle.definitions.specs.Machine.{addressed, addressees, in-turn, due, send-ok, send-oks};
+ghost use Rattle.world.specs.Layout.{Reads, Changes};
+ghost use Rattle.definitions.specs.World.{view, count};
 ghost use Rattle.sends.specs.Sends.{sent};
 ghost use Rattle.bounds.specs.Bounds.{Bounds};
 

@@ -10,10 +10,9 @@ use native.Mathlib.Decide.{ℕ-discrete}
 use lib.Pow.{shl-exact}
 use lib.Dec.{ltb, eqb, lit<}
 use borrow.Author.Tests.{eq-eqb, ne-eqb, lt-ltb, le-ltb}
-use Rattle.base.specs.Tests.{pick, le-or-lt}
-use Rattle.base.specs.Search.{every}
-use Rattle.base.specs.Count.{absent}
-use Rattle.base.specs.Bits.{bit, with, bit-zero, with-hit, with-other}
+use Rattle.definitions.specs.General.{pick, every, absent, bit, with}
+use Rattle.base.specs.Tests.{le-or-lt}
+use Rattle.base.specs.Bits.{bit-zero, with-hit, with-other}
 
 -- The set has the numbers below 64 among the first n items of the log.
 abbrev pub Members : ℕ → ℕ → (ℕ → ℕ) → Type 0

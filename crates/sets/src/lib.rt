@@ -3,8 +3,7 @@ ghost use mathlib.Core.Path.{_≡_};
 ghost use Prim.Native.Nat.{_+_, _≤_, _<_};
 ghost use lib.Dec.{ltb};
 ghost use lib.ListN.{length, getD};
-ghost use Rattle.base.specs.Bits.{bit, with};
-ghost use Rattle.base.specs.Tests.{pick};
+ghost use Rattle.definitions.specs.General.{bit, with, pick};
 ghost use Rattle.sets.specs.Members.{Members};
 
 // Whether x is a member.

@@ -1,11 +1,11 @@
 // Settle: arrivals one after the other, each of the lowest letter between two up processes. The search for it goes on
 // from where the last one was found, and the processes at which a letter has arrived are known to be quiescent.
+use definitions::Settling;
 use letters::Letter;
 use letters::Place;
-use world::Settling;
 ghost use mathlib.Core.Path.{_≡_};
-ghost use Rattle.world.specs.Words.{gives, settle-words};
-ghost use Rattle.world.specs.Answers.{settling-reply};
+ghost use Rattle.definitions.specs.Words.{gives, settle-words};
+ghost use Rattle.definitions.specs.Answers.{settling-reply};
 ghost use Rattle.keeps.specs.Keeps.{SoundWords};
 
 // Makes at most `budget` arrivals in a sound world, each of the lowest letter.

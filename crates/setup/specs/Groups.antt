@@ -8,8 +8,8 @@ use lib.Dec.{leb, eqb}
 use lib.ListN.{length}
 use borrow.Author.Tests.{eq-eqb, ne-eqb, le-leb, lt-leb, eqb-true, leb-true}
 use Rattle.base.specs.Tests.{both-l, both-r}
-use Rattle.base.specs.Search.{every, some}
-use Rattle.world.specs.Setup.{byte, setup-bits, setup-group, setup-has, good-setup}
+use Rattle.definitions.specs.General.{every, some, byte}
+use Rattle.definitions.specs.Setup.{setup-bits, setup-group, setup-has, good-setup}
 
 -- The group of process i.
 unfoldable pub group-in : ℕ → ℕ → ℕ

@@ -2,7 +2,7 @@
 ghost use mathlib.Core.Path.{_≡_};
 ghost use Prim.Native.Nat.{_+_, _*_, _≤_, _<_};
 ghost use lib.ListN.{length, getD};
-ghost use Rattle.world.specs.Setup.{setup-bits, good-setup};
+ghost use Rattle.definitions.specs.Setup.{setup-bits, good-setup};
 ghost use Rattle.setup.specs.Groups.{group-in, has-group, follows, no-gap};
 
 // A byte as a number of 64 bits.

@@ -3,8 +3,8 @@ ghost use mathlib.Core.Path.{_≡_};
 ghost use Prim.Native.Nat.{_<_};
 ghost use lib.ListN.{length};
 ghost use Rattle.bounds.specs.Bounds.{Bounds};
-ghost use Rattle.world.specs.World.{view, encode};
-ghost use Rattle.world.specs.Machine.{leave, trust-set, crash};
+ghost use Rattle.definitions.specs.World.{view, encode};
+ghost use Rattle.definitions.specs.Machine.{leave, trust-set, crash};
 
 // The letter of kind k for message m from q to p is lost.
 pub fn lose(w: &mut [u16], k: usize, m: usize, q: usize, p: usize)

@@ -9,9 +9,9 @@ use lib.Dec.{eqb}
 use lib.ListN.{getD}
 use borrow.Author.Tests.{le-ltb}
 use Rattle.base.specs.Search.{every-cong}
-use Rattle.world.specs.World.{Cell, size, count, rule, group, trust, counter, sequence, next, delivered, up, fifo-length, causal-length, held, marks, fifo, causal, sender, mask, stamp, number, flight, order, unused, Within, addr, cell-at, view}
-use Rattle.world.specs.Layout.{addr-cell-at, within-cell-at}
-use Rattle.world.specs.Sound.{frame, process, message, word, fit, fine}
+use Rattle.definitions.specs.World.{Cell, size, count, rule, group, trust, counter, sequence, next, delivered, up, fifo-length, causal-length, held, marks, fifo, causal, sender, mask, stamp, number, flight, order, unused, addr, cell-at, view}
+use Rattle.world.specs.Layout.{Within, addr-cell-at, within-cell-at}
+use Rattle.definitions.specs.Sound.{frame, process, message, word, fit, fine}
 use Rattle.ranges.specs.Ranges.{zeros-at}
 use Rattle.ranges.specs.Laws.{and-false}
 use Rattle.regions.specs.Runs.{fine-run}

@@ -3,8 +3,8 @@
 // range of zeros, absent messages and the words after them another.
 ghost use mathlib.Core.Path.{_≡_};
 ghost use lib.ListN.{length};
-ghost use Rattle.world.specs.World.{view};
-ghost use Rattle.world.specs.Sound.{sound};
+ghost use Rattle.definitions.specs.World.{view};
+ghost use Rattle.definitions.specs.Sound.{sound};
 ghost use Rattle.heads.specs.Known.{Sized, Grouped, Placed, Headed};
 
 // Whether the world is sound, where what exists has been tested.

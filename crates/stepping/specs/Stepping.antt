@@ -7,17 +7,16 @@ use Prim.Native.Nat.{ℕ, _<_}
 use native.Mathlib.Omega.{arith}
 use borrow.Author.Tests.{eq-eqb, ne-eqb}
 use lib.ListN.{length}
-use Rattle.base.specs.Tests.{pick}
-use Rattle.world.specs.World.{size, count, State, encode, view}
+use Rattle.definitions.specs.General.{pick}
+use Rattle.definitions.specs.World.{size, count, State, encode, view}
 use Rattle.world.specs.Layout.{encode-view}
-use Rattle.world.specs.Sound.{Sound}
-use Rattle.world.specs.SoundLaws.{size-high, count-high}
-use Rattle.world.specs.Steps.{Step, multicasts, arrives, loses, trusts, crashes, refusal, step, after}
+use Rattle.world.specs.SoundLaws.{Sound, size-high, count-high}
+use Rattle.definitions.specs.Steps.{Step, multicasts, arrives, loses, trusts, crashes, refusal, step, after}
 use Rattle.world.specs.StepLaws.{accepted-multicast, accepted-arrival, accepted-loss, accepted-trust, accepted-crash}
-use Rattle.world.specs.Answers.{refusal-number, outcome-number}
-use Rattle.world.specs.declared.Refusal.{Refusal}
-use Rattle.world.specs.declared.Outcome.{Outcome}
-use Rattle.world.specs.declared.Outcome.the-variants.{Taken, Refused}
+use Rattle.definitions.specs.Answers.{refusal-number, outcome-number}
+use Rattle.definitions.specs.declared.Refusal.{Refusal}
+use Rattle.definitions.specs.declared.Outcome.{Outcome}
+use Rattle.definitions.specs.declared.Outcome.the-variants.{Taken, Refused}
 use Rattle.quiescence.specs.Quiescent.{QuiescentIf, AllQuiescentIf, one-of-all}
 use Rattle.bounds.specs.Bounds.{Bounds, sound-bounds}
 use Rattle.given.specs.declared.Given.{Given}

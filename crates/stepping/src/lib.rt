@@ -1,15 +1,15 @@
 // A step of a sound world, for callers that know it to be sound: no word is tested for soundness. A refusal
 // changes nothing. Who knows that all processes are quiescent says so, and spares an arrival the search for ready
 // messages.
+use definitions::Outcome;
+use definitions::Refusal;
 use given::Given;
-use world::Outcome;
-use world::Refusal;
 ghost use mathlib.Core.Path.{_≡_};
 ghost use lib.ListN.{length};
-ghost use Rattle.world.specs.World.{view, encode};
-ghost use Rattle.world.specs.Sound.{Sound};
-ghost use Rattle.world.specs.Steps.{read, refusal, step as take, after};
-ghost use Rattle.world.specs.Answers.{outcome-number};
+ghost use Rattle.definitions.specs.World.{view, encode};
+ghost use Rattle.world.specs.SoundLaws.{Sound};
+ghost use Rattle.definitions.specs.Steps.{read, refusal, step as stepped, after};
+ghost use Rattle.definitions.specs.Answers.{outcome-number};
 ghost use Rattle.given.specs.Given.{step-of};
 ghost use Rattle.quiescence.specs.Quiescent.{AllQuiescentIf};
 
@@ -31,7 +31,7 @@ fn judge(w: &[u16], x: Given) -> Outcome
 // What a step does that is taken.
 fn act(w: &mut [u16], x: Given, quiescent: bool)
     requires { ⌜ (length (now w) ≡ 20480) × Sound (view (now w)) × AllQuiescentIf quiescent (view (now w)) × (refusal (view (now w)) (step-of x) ≡ 0) ⌝ }
-    ensures { λ _. ⌜ now (w .exit) ≡ encode (take (view (now (w .entry))) (step-of x)) ⌝ }
+    ensures { λ _. ⌜ now (w .exit) ≡ encode (stepped (view (now (w .entry))) (step-of x)) ⌝ }
 {
     match x {
         Given::Multicast(p, groups) => multicasts::send_new(w, p, groups),

@@ -7,15 +7,14 @@ use Prim.Native.Nat.{ℕ}
 use lib.Dec.{eqb}
 use lib.ListN.{length}
 use borrow.Author.Tests.{ne-eqb}
-use Rattle.base.specs.Tests.{pick}
-use Rattle.base.specs.Refusals.{needs}
-use Rattle.world.specs.World.{State, view}
-use Rattle.world.specs.Sound.{sound}
-use Rattle.world.specs.Steps.{Step, arrives, read, refusal, accepted, step, after}
-use Rattle.world.specs.Settle.{lowest, Settled, settle-from}
+use Rattle.definitions.specs.General.{pick, needs}
+use Rattle.definitions.specs.World.{State, view}
+use Rattle.definitions.specs.Sound.{sound}
+use Rattle.definitions.specs.Steps.{Step, arrives, read, refusal, accepted, step, after}
+use Rattle.definitions.specs.Settle.{lowest, Settled, settle-from}
 use Rattle.world.specs.SettleLaws.{settle-related}
-use Rattle.world.specs.Words.{needs-world, unless-refused, making-refusal, made-words, step-words, step-refusal, stepped-words, settle-words, settled-words}
-use Rattle.world.specs.History.{on-words, Run, Item, given, settling, taken, tick, settles, act, run}
+use Rattle.definitions.specs.Words.{needs-world, unless-refused, making-refusal, made-words, step-words, step-refusal, stepped-words, settle-words, settled-words, on-words}
+use Rattle.definitions.specs.History.{Run, Item, given, settling, taken, tick, settles, act, run}
 
 -- ---- a refused call changes nothing
 pub refused-same : (n : ℕ) (u w : List ℕ) → (n ≡ 0 → ⊥) → unless-refused n u w ≡ w

@@ -7,11 +7,10 @@ use mathlib.Core.Logic.{_≢_}
 use lib.Dec.{eqb}
 use borrow.Author.Tests.{eqb-true, eqb-false}
 use Prim.Native.Nat.{ℕ, zero, suc, _-_}
-use Rattle.base.specs.Tests.{pick}
+use Rattle.definitions.specs.General.{pick, with}
 use Rattle.base.specs.Loop.{loop-keeps}
-use Rattle.base.specs.Bits.{with}
-use Rattle.world.specs.World.{count, fifo-length, causal-length, held, marks, flight, State, put}
-use Rattle.world.specs.Machine.{addressees, in-turn, ready, deliverable-at, causal-one, causal-all, due, send-ok, send-oks, fifo-one, cascade, leave, mark, hold, received}
+use Rattle.definitions.specs.World.{count, fifo-length, causal-length, held, marks, flight, State, put}
+use Rattle.definitions.specs.Machine.{addressees, in-turn, ready, deliverable-at, causal-one, causal-all, due, send-ok, send-oks, fifo-one, cascade, leave, mark, hold, received}
 
 -- ---- the cascade at p
 module _ {A : Type 0} (f : State → A) (p : ℕ) where

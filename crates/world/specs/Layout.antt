@@ -13,9 +13,44 @@ use lib.Dec.{ltb}
 use borrow.Author.Tests.{ltb-true, ltb-false, lt-ltb, le-ltb}
 use lib.ListN.{length, getD, set, take, drop, length-set, length-take, length-drop}
 use lib.Seq.{getD-set-same, getD-set-other, getD-take, getD-drop}
-use Rattle.base.specs.Tests.{pick}
-use Rattle.base.specs.Tabulate.{tabulate, length-tabulate, getD-tabulate, is-tabulate, splice, length-splice, splice-below, splice-in, splice-above}
-use Rattle.world.specs.World.{Cell, size, count, rule, group, trust, counter, sequence, next, delivered, up, fifo-length, causal-length, held, marks, fifo, causal, sender, mask, stamp, number, flight, order, unused, Cell-discrete, addr, Within, Region, cell-in, of-process, of-message, regions, cell-at, State, put, encode, view, Changes, Reads}
+use Rattle.definitions.specs.General.{pick, tabulate}
+use Rattle.base.specs.Tabulate.{length-tabulate, getD-tabulate, is-tabulate, splice, length-splice, splice-below, splice-in, splice-above}
+use Rattle.definitions.specs.World.{Cell, size, count, rule, group, trust, counter, sequence, next, delivered, up, fifo-length, causal-length, held, marks, fifo, causal, sender, mask, stamp, number, flight, order, unused, Cell-discrete, addr, Region, cell-in, of-process, of-message, regions, cell-at, State, put, encode, view}
+
+-- The cell is one of the world's: 16 processes, 8 groups, 64 messages, 3 kinds of letters, 1,645 unused
+-- words.
+abbrev pub Within : Cell → Type 0
+Within size = Unit {0}
+Within count = Unit {0}
+Within rule = Unit {0}
+Within (group p) = p < 16
+Within (trust p) = p < 16
+Within (counter p g q) = (p < 16) × (g < 8) × (q < 16)
+Within (sequence p g) = (p < 16) × (g < 8)
+Within (next p q) = (p < 16) × (q < 16)
+Within (delivered p q) = (p < 16) × (q < 16)
+Within (up p) = p < 16
+Within (fifo-length p) = p < 16
+Within (causal-length p) = p < 16
+Within (held p m) = (p < 16) × (m < 64)
+Within (marks p m) = (p < 16) × (m < 64)
+Within (fifo p i) = (p < 16) × (i < 64)
+Within (causal p i) = (p < 16) × (i < 64)
+Within (sender m) = m < 64
+Within (mask m) = m < 64
+Within (stamp m g q) = (m < 64) × (g < 8) × (q < 16)
+Within (number m g) = (m < 64) × (g < 8)
+Within (flight m k q) = (m < 64) × (k < 3) × (q < 16)
+Within (order m) = m < 64
+Within (unused i) = i < 1645
+
+-- Of words w that became u: whatever state w was, u is that state changed by f.
+abbrev pub Changes : List ℕ → List ℕ → (State → State) → Type 0
+Changes w u f = (s : State) → w ≡ encode s → u ≡ encode (f s)
+
+-- Of a value a read from words w: whatever state w is, a is f of it.
+abbrev pub Reads : {A : Type 0} → List ℕ → A → (State → A) → Type 0
+Reads w a f = (s : State) → w ≡ encode s → a ≡ f s
 
 -- ---- a cell of the world stands among its words
 pub in-words : (c : Cell) → Within c → addr c < 20480

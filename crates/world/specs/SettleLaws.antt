@@ -2,7 +2,13 @@
 -- the same; what each arrival keeps, a settle keeps. Assumes nothing.
 use mathlib.Core.Path.{_≡_, refl, ap, subst}
 use Prim.Native.Nat.{ℕ, zero, suc, _+_}
-use Rattle.world.specs.Settle.{Choice, letter, nothing, done, stopped, Settled, settle-from}
+use Rattle.definitions.specs.World.{State}
+use Rattle.definitions.specs.Machine.{arrival}
+use Rattle.definitions.specs.Settle.{Choice, letter, nothing, done, stopped, Settled, lowest, settle-from}
+
+-- Settle on a state, with a budget and document 01's choice.
+unfoldable pub settle : State → ℕ → Settled State
+settle s b = settle-from lowest arrival b 0 s
 
 -- Related worlds, and the same answer.
 pub record Alike {S T : Type 0} (R : S → T → Type 0) (x : Settled S) (y : Settled T) : Type 0 where

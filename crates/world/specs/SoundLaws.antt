@@ -9,13 +9,18 @@ use Prim.Native.Nat.{ℕ, _+_, _≤_, _<_}
 use native.Mathlib.Omega.{arith}
 use lib.Dec.{ltb, leb, eqb}
 use borrow.Author.Tests.{ltb-true, lt-ltb, eqb-true, leb-true, eq-eqb, not-true}
-use Rattle.base.specs.Tests.{clash, both, both-l, both-r, both-i, pick}
-use Rattle.base.specs.Search.{every, every-true, every-intro, every-cong, some, some-e, some-cong}
-use Rattle.base.specs.Count.{In, in-at, tally, tally-le, tally-cong, absent, absent-in, absent-out, absent-cong}
-use Rattle.base.specs.Bits.{bit, bit-zero, only, only-e, only-cong}
-use Rattle.world.specs.World.{Cell, size, count, rule, group, trust, counter, sequence, next, delivered, up, fifo-length, causal-length, held, marks, fifo, causal, sender, mask, stamp, number, flight, order, unused, addr, Within, State, cell-at, encode, view}
-use Rattle.world.specs.Layout.{in-words, cell-at-addr, within-cell-at, get-encode}
-use Rattle.world.specs.Sound.{Frame, frame, process, message, present, addressee, sends, word, item, logged-of, fit, fine, sound, Sound}
+use Rattle.base.specs.Tests.{clash, both, both-l, both-r, both-i}
+use Rattle.definitions.specs.General.{pick, every, some, In, in-at, tally, absent, bit, only}
+use Rattle.base.specs.Search.{every-true, every-intro, every-cong, some-e, some-cong}
+use Rattle.base.specs.Count.{tally-le, tally-cong, absent-in, absent-out, absent-cong}
+use Rattle.base.specs.Bits.{bit-zero, only-e, only-cong}
+use Rattle.definitions.specs.World.{Cell, size, count, rule, group, trust, counter, sequence, next, delivered, up, fifo-length, causal-length, held, marks, fifo, causal, sender, mask, stamp, number, flight, order, unused, addr, State, cell-at, encode, view}
+use Rattle.world.specs.Layout.{Within, in-words, cell-at-addr, within-cell-at, get-encode}
+use Rattle.definitions.specs.Sound.{Frame, frame, process, message, present, addressee, sends, word, item, logged-of, fit, fine, sound}
+
+-- That a world is sound, as the fact about its cells.
+abbrev pub Sound : State → Type 0
+Sound s = (c : Cell) → Within c → fine s c ≡ true
 
 -- ---- a word in use, and one that is not
 pub word-in : (b : Bool) (x : ℕ) (t : Bool) → word b x t ≡ true → b ≡ true → t ≡ true

@@ -8,11 +8,11 @@ use lib.Dec.{ltb}
 use borrow.Author.Tests.{ltb-true, ltb-false, lt-ltb, eqb-true, eq-eqb}
 use Rattle.base.specs.Tests.{both, both-l, both-r, both-i}
 use Rattle.base.specs.Refusals.{needs-none}
-use Rattle.base.specs.Search.{first-from, first-law}
-use Rattle.base.specs.Bits.{bit}
-use Rattle.world.specs.World.{size, count, up, flight, State}
-use Rattle.world.specs.Steps.{multicasts, arrives, loses, trusts, crashes, good-mask, is-process, is-message, is-up, in-flight, good-trust, refusal, accepted}
-use Rattle.world.specs.Settle.{Choice, letter, nothing, moves, receiver, origin, kind, movable, letter-of, lowest}
+use Rattle.definitions.specs.General.{first-from, bit}
+use Rattle.base.specs.Search.{first-law}
+use Rattle.definitions.specs.World.{size, count, up, flight, State}
+use Rattle.definitions.specs.Steps.{multicasts, arrives, loses, trusts, crashes, good-mask, is-process, is-message, is-up, in-flight, good-trust, refusal, accepted}
+use Rattle.definitions.specs.Settle.{Choice, letter, nothing, moves, receiver, origin, kind, movable, letter-of, lowest}
 
 -- ---- an accepted multicast of p
 pub record Multicasts (s : State) (p groups : ℕ) : Type 0 where

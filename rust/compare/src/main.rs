@@ -48,7 +48,8 @@ const AREAS: [Area; 6] = [
     Area { name: "program", input: program::input, answers: program::ANSWERS, cover: &[], weight: 200 },
 ];
 
-const COUNT: u64 = 100_000;
+/// The default: enough for every answer and every word of the layout to be tried.
+const COUNT: u64 = 400_000;
 const SEED: u64 = 1;
 
 struct Range {

@@ -4,10 +4,10 @@ use Prim.Native.Nat.{_<_}
 use native.Mathlib.Omega.{arith}
 use borrow.Author.Needs.{needs}
 use borrow.Author.Tests.{not-true, not-false}
-use Rattle.base.specs.Loop.{chosen}
+use Rattle.definitions.specs.General.{chosen}
 use Rattle.world.specs.Layout.{encode-view, reads-cell}
-use Rattle.world.specs.Machine.{leave, mark, received, arrival}
-use Rattle.world.specs.World.{count, held, State, encode, view}
+use Rattle.definitions.specs.Machine.{leave, mark, received, arrival}
+use Rattle.definitions.specs.World.{count, held, State, encode, view}
 use Rattle.bounds.specs.Bounds.{Bounds, bounds-words}
 use Rattle.receiving.specs.Receiving.{bounds-marked, bounds-hold}
 use Rattle.quiescence.specs.Quiescent.{Quiescent, received-count, received-only}

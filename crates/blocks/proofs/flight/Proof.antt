@@ -1,7 +1,7 @@
 -- `blocks::flight` meets its contract: no letter at all, or each kind by its origins. Assumes nothing.
 use mathlib.Core.Path.{refl, sym, ap, _∙_}
 use native.Mathlib.Omega.{arith}
-use Rattle.base.specs.Bits.{with}
+use Rattle.definitions.specs.General.{with}
 use Rattle.blocks.specs.Known.{sender-low}
 use Rattle.blocks.specs.Message.{flight-law, quiet-law}
 use borrow.Author.Needs.{needs}

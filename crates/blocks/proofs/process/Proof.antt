@@ -2,7 +2,7 @@
 use mathlib.Core.Path.{_≡_, sym, _∙_}
 use mathlib.Core.Bool.{true}
 use borrow.Author.Tests.{not-true, not-false}
-use Rattle.world.specs.World.{view}
+use Rattle.definitions.specs.World.{view}
 use Rattle.blocks.specs.Logs.{logs-fine}
 use Rattle.blocks.specs.Process.{front-fine, lengths, block-front, block-logs, block-rest}
 use borrow.Author.Needs.{needs}

@@ -1,7 +1,7 @@
 -- `calls::settle` meets its contract: 1, 2, else what settling a sound world gives. Assumes nothing.
 use mathlib.Core.Path.{_≡_, sym, ap, _∙_}
-use Rattle.world.specs.Words.{needs-world}
-use Rattle.world.specs.Answers.{outcome-number, refusal-number}
+use Rattle.definitions.specs.Words.{needs-world}
+use Rattle.definitions.specs.Answers.{outcome-number, refusal-number}
 use Rattle.keeps.specs.Keeps.{taken-sound-words}
 use Rattle.refusals.specs.Refused.{refusal-some}
 use Rattle.reading.specs.Tested.{settle-refused, settle-taken}

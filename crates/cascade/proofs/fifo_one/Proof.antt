@@ -4,8 +4,8 @@ use Prim.Native.Nat.{_<_}
 use native.Mathlib.Omega.{arith}
 use borrow.Author.Needs.{needs}
 use Rattle.world.specs.Layout.{encode-view, reads-cell}
-use Rattle.world.specs.Machine.{appended, causal-all}
-use Rattle.world.specs.World.{State, encode, view, next}
+use Rattle.definitions.specs.Machine.{appended, causal-all}
+use Rattle.definitions.specs.World.{State, encode, view, next}
 use Rattle.bounds.specs.Bounds.{Bounds, bounds-words}
 use Rattle.cascade.specs.Cascade.{fifo-law, bounds-appended, bounds-delivered, bounds-next, next-room}
 use Rattle.cascade.specs.Turn.{owes-law}

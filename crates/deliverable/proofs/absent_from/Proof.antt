@@ -7,8 +7,8 @@ use mathlib.Core.Bool.{true, not}
 use native.Mathlib.Omega.{arith}
 use lib.ListN.{getD}
 use lib.Dec.{eqb}
-use Rattle.base.specs.Count.{absent}
-use Rattle.base.specs.Search.{every, every-more, every-fails}
+use Rattle.definitions.specs.General.{absent, every}
+use Rattle.base.specs.Search.{every-more, every-fails}
 use Rattle.base.specs.Tests.{is-other, is-same}
 use Rattle.deliverable.proofs.absent_from.Statement.{statement}
 use Rattle.deliverable.proofs.absent_from.Tie as tie

@@ -2,7 +2,7 @@
 use mathlib.Core.Path.{sym, _∙_}
 use Prim.Native.Nat.{_<_}
 use native.Mathlib.Omega.{arith}
-use Rattle.world.specs.World.{view}
+use Rattle.definitions.specs.World.{view}
 use Rattle.deliverable.specs.Tests.{deliverable-law, deliver-yes, deliver-no}
 use borrow.Author.Needs.{needs}
 use Rattle.deliverable.proofs.can_deliver.Statement.{statement}

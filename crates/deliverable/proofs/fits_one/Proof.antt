@@ -1,7 +1,7 @@
 -- `deliverable::fits_one` meets its contract. Assumes nothing.
 use borrow.Author.Needs.{needs}
 use mathlib.Core.Path.{sym, _∙_}
-use Rattle.world.specs.World.{view}
+use Rattle.definitions.specs.World.{view}
 use Rattle.deliverable.specs.Tests.{fits-sender, fits-other}
 use Rattle.deliverable.proofs.fits_one.Statement.{statement}
 use Rattle.deliverable.proofs.fits_one.Tie as tie

@@ -5,11 +5,11 @@ use Prim.Native.Nat.{ℕ}
 use native.Mathlib.Omega.{arith}
 use types.Run.{OneOf, miss}
 use denote.Enum.Declared.{tagOf}
-use Rattle.world.specs.Words.{gives, refuses}
+use Rattle.definitions.specs.Words.{gives, refuses}
 use Rattle.replaying.specs.declared.Replaying.{Replaying}
 use Rattle.replaying.specs.declared.Replaying.the-variants.{Done, WorldLength, JournalLength, WrongCheck, WrongForm, BadSetup}
 use Rattle.replaying.proofs.Replaying.{the-type}
-use Rattle.replaying.specs.Replay.{replay-reply}
+use Rattle.definitions.specs.Replay.{replay-reply}
 use Rattle.replaying.specs.Answers.{replaying-number, replaying-reply}
 use Rattle.replaying.specs.Turns.{counts-small}
 use Rattle.engine.specs.Values.{whole, steps-in, refused-in}

@@ -1,6 +1,6 @@
 -- `engine::wt_settle` meets its contract: each case of the answer has its number and its values. Assumes nothing.
 use mathlib.Core.Path.{refl, sym, ap, _∙_}
-use Rattle.world.specs.Answers.{settling-reply}
+use Rattle.definitions.specs.Answers.{settling-reply}
 use Rattle.engine.specs.Values.{whole, arrivals-in, done-in}
 use borrow.Author.Needs.{needs}
 use Rattle.engine.proofs.wt_settle.Statement.{statement}

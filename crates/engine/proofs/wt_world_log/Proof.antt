@@ -2,8 +2,8 @@
 use mathlib.Core.Path.{_≡_, sym, ap, _∙_}
 use Prim.Native.Nat.{_+_, _≤_, _<_}
 use native.Mathlib.Omega.{arith}
-use Rattle.world.specs.Words.{gives, log-start, length-reply}
-use Rattle.world.specs.Answers.{log-length-reply}
+use Rattle.definitions.specs.Words.{gives, log-start, length-reply}
+use Rattle.definitions.specs.Answers.{log-length-reply}
 use Rattle.reading.specs.Tested.{logged, log-inside}
 use Rattle.engine.specs.Values.{refusal-in, values-same}
 use borrow.Author.Needs.{needs}

@@ -1,6 +1,6 @@
 -- `given::crash` meets its contract. Assumes nothing.
 use mathlib.Core.Path.{refl, sym, ap, _∙_}
-use Rattle.world.specs.Steps.{crashes}
+use Rattle.definitions.specs.Steps.{crashes}
 use Rattle.given.specs.Given.{read-yes, read-no}
 use borrow.Author.Needs.{needs}
 use Rattle.given.proofs.crash.Statement.{statement}

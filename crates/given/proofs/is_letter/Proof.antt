@@ -3,8 +3,8 @@ use mathlib.Core.Path.{sym, ap, _∙_}
 use mathlib.Core.Bool.{Bool, _&&_}
 use native.Mathlib.Omega.{arith}
 use borrow.Author.Tests.{lt-ltb, le-ltb}
-use Rattle.world.specs.Setup.{byte}
-use Rattle.world.specs.Steps.{zeros-from}
+use Rattle.definitions.specs.General.{byte}
+use Rattle.definitions.specs.Steps.{zeros-from}
 use borrow.Author.Needs.{needs}
 use Rattle.given.proofs.is_letter.Statement.{statement}
 use Rattle.given.proofs.is_letter.Tie as tie

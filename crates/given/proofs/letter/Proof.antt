@@ -1,7 +1,7 @@
 -- `given::letter` meets its contract. Assumes nothing.
 use mathlib.Core.Path.{_≡_, sym, _∙_}
 use borrow.Author.Tests.{not-true, not-false}
-use Rattle.world.specs.Steps.{read}
+use Rattle.definitions.specs.Steps.{read}
 use Rattle.given.specs.Given.{letter-good, letter-step, letter-as, read-yes, read-no, same-letter}
 use borrow.Author.Needs.{needs}
 use Rattle.given.proofs.letter.Statement.{statement}

@@ -1,6 +1,6 @@
 -- `given::multicast` meets its contract. Assumes nothing.
 use mathlib.Core.Path.{refl, sym, ap₂, _∙_}
-use Rattle.world.specs.Steps.{multicasts}
+use Rattle.definitions.specs.Steps.{multicasts}
 use Rattle.given.specs.Given.{read-yes, read-no}
 use borrow.Author.Needs.{needs}
 use Rattle.given.proofs.multicast.Statement.{statement}

@@ -1,7 +1,7 @@
 -- `given::trust` meets its contract. Assumes nothing.
 use mathlib.Core.Path.{refl, sym, ap₂, _∙_}
 use Prim.Native.Nat.{ℕ, _+_, _*_}
-use Rattle.world.specs.Steps.{trusts}
+use Rattle.definitions.specs.Steps.{trusts}
 use Rattle.given.specs.Given.{read-yes, read-no}
 use borrow.Author.Needs.{needs}
 use Rattle.given.proofs.trust.Statement.{statement}

@@ -4,7 +4,7 @@ use mathlib.Core.Bool.{true}
 use Prim.Native.Nat.{ℕ, _-_, _≤_}
 use native.Mathlib.Omega.{arith}
 use borrow.Author.Needs.{needs}
-use Rattle.base.specs.Search.{every}
+use Rattle.definitions.specs.General.{every}
 use Rattle.given.specs.Given.{passes, zeros-start, zeros-more, zeros-fail}
 use Rattle.given.proofs.zeros.Statement.{statement}
 use Rattle.given.proofs.zeros.Tie as tie

@@ -3,7 +3,7 @@
 use mathlib.Core.Path.{_≡_}
 use Prim.Native.Nat.{_-_, _≤_}
 use native.Mathlib.Omega.{arith}
-use Rattle.world.specs.World.{view}
+use Rattle.definitions.specs.World.{view}
 use Rattle.heads.specs.Groups.{GroupSet, group-none, group-more}
 use borrow.Author.Needs.{needs}
 use Rattle.heads.proofs.gather.Statement.{statement}

@@ -1,6 +1,6 @@
 -- `heads::groups` meets its contract: the two tests of what was gathered. Assumes nothing.
 use native.Mathlib.Omega.{arith}
-use Rattle.world.specs.World.{view}
+use Rattle.definitions.specs.World.{view}
 use Rattle.heads.specs.Groups.{group-test}
 use borrow.Author.Needs.{needs}
 use Rattle.heads.proofs.groups.Statement.{statement}

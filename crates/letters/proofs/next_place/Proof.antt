@@ -2,7 +2,7 @@
 use mathlib.Core.Path.{sym, ap, _∙_}
 use Prim.Native.Nat.{ℕ}
 use borrow.Author.Needs.{needs}
-use Rattle.world.specs.World.{view}
+use Rattle.definitions.specs.World.{view}
 use Rattle.letters.specs.Places.{next-place}
 use Rattle.letters.proofs.next_place.Statement.{statement}
 use Rattle.letters.proofs.next_place.Tie as tie

@@ -2,7 +2,7 @@
 use mathlib.Core.Path.{sym, ap, _∙_}
 use Prim.Native.Nat.{ℕ}
 use lib.Bits.{bitAnd}
-use Rattle.world.specs.World.{view}
+use Rattle.definitions.specs.World.{view}
 use borrow.Author.Tests.{not-true, not-false}
 use Rattle.letters.specs.Search.{waiting-down, waiting-up}
 use borrow.Author.Needs.{needs}

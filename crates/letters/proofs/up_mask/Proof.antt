@@ -2,11 +2,10 @@
 use mathlib.Core.Path.{_≡_, refl, sym, ap, _∙_}
 use Prim.Native.Nat.{ℕ, _-_, _≤_}
 use native.Mathlib.Omega.{arith}
-use Rattle.base.specs.Tests.{pick}
-use Rattle.base.specs.Bits.{with, mask-of}
-use Rattle.world.specs.World.{size, view}
+use Rattle.definitions.specs.General.{pick, with, mask-of}
+use Rattle.definitions.specs.World.{size, view}
 use Rattle.letters.specs.Search.{mask-more}
-use Rattle.world.specs.Steps.{is-up}
+use Rattle.definitions.specs.Steps.{is-up}
 use Rattle.letters.proofs.up_mask.Statement.{statement}
 use Rattle.letters.proofs.up_mask.Tie as tie
 

@@ -4,8 +4,8 @@ use mathlib.Core.Path.{_≡_, refl, ap, _∙_}
 use Prim.Native.Nat.{ℕ, _-_, _≤_}
 use native.Mathlib.Omega.{arith}
 use lib.ListN.{getD-replicate, length-set}
-use Rattle.base.specs.Bits.{mask-of}
-use Rattle.world.specs.World.{view, mask}
+use Rattle.definitions.specs.General.{mask-of}
+use Rattle.definitions.specs.World.{view, mask}
 use Rattle.limits.specs.Addressees.{Partly, partly-none, partly-more, partly-all, group-bit, group-low}
 use Rattle.limits.specs.Members.{joined-all}
 use borrow.Author.Needs.{needs}

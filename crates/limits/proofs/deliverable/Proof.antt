@@ -4,8 +4,7 @@ use mathlib.Core.Path.{_≡_, refl}
 use Prim.Native.Nat.{ℕ, _-_, _≤_, _<_}
 use native.Mathlib.Omega.{arith}
 use lib.ListN.{length, getD, length-set}
-use Rattle.base.specs.Tests.{pick}
-use Rattle.base.specs.Bits.{bit}
+use Rattle.definitions.specs.General.{pick, bit}
 use Rattle.limits.specs.Limits.{stored-more}
 use borrow.Author.Needs.{needs}
 use Rattle.limits.proofs.deliverable.Statement.{statement}

@@ -4,7 +4,7 @@ use mathlib.Core.Path.{_≡_, refl}
 use Prim.Native.Nat.{_-_, _≤_, _<_}
 use native.Mathlib.Omega.{arith}
 use lib.ListN.{length-set, getD-replicate}
-use Rattle.world.specs.World.{view}
+use Rattle.definitions.specs.World.{view}
 use Rattle.limits.specs.Addressees.{group-low}
 use Rattle.limits.specs.Members.{Members, members-none, members-more}
 use borrow.Author.Needs.{needs}

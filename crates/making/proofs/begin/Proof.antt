@@ -4,7 +4,7 @@ use mathlib.Core.List.{List}
 use Prim.Native.Nat.{ℕ}
 use native.Mathlib.Omega.{arith}
 use lib.ListN.{replicate, length-set}
-use Rattle.world.specs.World.{up, put, encode}
+use Rattle.definitions.specs.World.{up, put, encode}
 use Rattle.world.specs.Layout.{changes-put}
 use Rattle.records.specs.Record.{with-record}
 use borrow.Author.Needs.{needs}

@@ -3,7 +3,7 @@ use mathlib.Core.Path.{_≡_, sym, ap, _∙_}
 use Prim.Native.Nat.{ℕ, _-_, _≤_}
 use native.Mathlib.Omega.{arith}
 use lib.ListN.{length}
-use Rattle.world.specs.World.{encode}
+use Rattle.definitions.specs.World.{encode}
 use Rattle.world.specs.Layout.{length-encode}
 use Rattle.setup.specs.Groups.{group-in, group-small}
 use Rattle.making.specs.Begun.{begun, begin-process, begun-more}

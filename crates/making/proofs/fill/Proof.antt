@@ -3,9 +3,9 @@ use mathlib.Core.Path.{_≡_, sym, ap, ap₂, _∙_}
 use Prim.Native.Nat.{ℕ}
 use native.Mathlib.Omega.{arith}
 use lib.ListN.{length}
-use Rattle.world.specs.World.{encode}
+use Rattle.definitions.specs.World.{encode}
 use Rattle.world.specs.Layout.{length-encode}
-use Rattle.world.specs.Setup.{made}
+use Rattle.definitions.specs.Setup.{made}
 use Rattle.setup.specs.Groups.{group-in, good-facts}
 use Rattle.making.specs.Begun.{begun, begun-made}
 use Rattle.making.specs.Calls.{start-words}

@@ -1,7 +1,7 @@
 -- `making::make` meets its contract: 1, then 3, else the fresh world. Assumes nothing.
 use mathlib.Core.Path.{_≡_, sym, _∙_}
 use mathlib.Core.Bool.{true}
-use Rattle.world.specs.Setup.{good-setup}
+use Rattle.definitions.specs.Setup.{good-setup}
 use borrow.Author.Tests.{not-true, not-false}
 use Rattle.making.specs.Calls.{wrong-length, wrong-setup, right-setup}
 use borrow.Author.Needs.{needs}

@@ -5,7 +5,7 @@ use native.Mathlib.Omega.{arith}
 use lib.Dec.{ltb}
 use lib.ListN.{length, getD, take, length-set}
 use lib.Seq.{take-all}
-use Rattle.base.specs.Tests.{pick}
+use Rattle.definitions.specs.General.{pick}
 use Rattle.base.specs.Tabulate.{length-tabulate, getD-tabulate, filled-more}
 use Rattle.making.specs.Begun.{first-nexts}
 use Rattle.making.proofs.nexts.Statement.{statement}

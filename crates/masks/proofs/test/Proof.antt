@@ -1,6 +1,6 @@
 -- `masks::test` meets its contract. Assumes nothing.
 use mathlib.Core.Path.{refl}
-use Rattle.base.specs.Bits.{bit}
+use Rattle.definitions.specs.General.{bit}
 use borrow.Author.Needs.{needs}
 use Rattle.masks.proofs.test.Statement.{statement}
 use Rattle.masks.proofs.test.Tie as tie

@@ -1,6 +1,6 @@
 -- `multicasts::raise` meets its contract. Assumes nothing.
 use mathlib.Core.Path.{sym}
-use Rattle.world.specs.World.{view}
+use Rattle.definitions.specs.World.{view}
 use Rattle.world.specs.Layout.{encode-view}
 use Rattle.multicasts.specs.Multicast.{below-record, copy-law}
 use borrow.Author.Needs.{needs}

@@ -4,7 +4,7 @@ use mathlib.Core.Path.{_≡_, ap, _∙_}
 use Prim.Native.Nat.{ℕ, _+_, _-_, _≤_}
 use native.Mathlib.Omega.{arith}
 use borrow.Author.Needs.{needs}
-use Rattle.base.specs.Bits.{bit}
+use Rattle.definitions.specs.General.{bit}
 use Rattle.multicasts.specs.Raise.{raised-below, raised-start, raised-more, Below, below-raised}
 use Rattle.multicasts.proofs.raise_all.Statement.{statement}
 use Rattle.multicasts.proofs.raise_all.Tie as tie

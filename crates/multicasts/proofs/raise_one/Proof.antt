@@ -3,7 +3,7 @@ use mathlib.Core.Path.{sym, ap, _∙_}
 use mathlib.Core.Bool.{Bool}
 use Prim.Native.Nat.{_+_, _*_}
 use native.Mathlib.Omega.{arith}
-use Rattle.base.specs.Tests.{pick}
+use Rattle.definitions.specs.General.{pick}
 use Rattle.multicasts.specs.Raise.{raised-one}
 use borrow.Author.Needs.{needs}
 use Rattle.multicasts.proofs.raise_one.Statement.{statement}

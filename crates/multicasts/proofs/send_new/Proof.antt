@@ -1,7 +1,7 @@
 -- `multicasts::send_new` meets its contract. Assumes nothing.
 use mathlib.Core.Path.{_≡_, sym, _∙_}
 use native.Mathlib.Omega.{arith}
-use Rattle.world.specs.World.{count, State, encode, view}
+use Rattle.definitions.specs.World.{count, State, encode, view}
 use Rattle.world.specs.Layout.{encode-view, reads-cell}
 use Rattle.bounds.specs.Bounds.{bounds-words}
 use Rattle.multicasts.specs.Multicast.{with-copy, count-kept, bounds-message, multicast-law}

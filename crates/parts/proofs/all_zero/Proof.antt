@@ -6,7 +6,7 @@ use native.Mathlib.Omega.{arith}
 use lib.Dec.{eqb}
 use lib.ListN.{length, take}
 use lib.Seq.{take-all}
-use Rattle.parts.specs.Parts.{all-zero}
+use Rattle.definitions.specs.General.{all-zero}
 use Rattle.parts.specs.Laws.{gathered}
 use Rattle.parts.proofs.all_zero.Statement.{statement}
 use Rattle.parts.proofs.all_zero.Tie as tie

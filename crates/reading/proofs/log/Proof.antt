@@ -1,10 +1,10 @@
 -- `reading::log` meets its contract: what its length says decides. Assumes nothing.
 use mathlib.Core.Path.{_≡_, sym, ap, _∙_}
 use Prim.Native.Nat.{ℕ, _+_, _-_, _≤_, _<_}
-use Rattle.world.specs.Words.{log-start}
+use Rattle.definitions.specs.Words.{log-start}
 use native.Mathlib.Omega.{arith}
 use lib.ListN.{take, drop}
-use Rattle.world.specs.Answers.{log-length-reply}
+use Rattle.definitions.specs.Answers.{log-length-reply}
 use Rattle.reading.specs.Tested.{log-empty, Logged, logged, log-inside}
 use borrow.Author.Needs.{needs}
 use Rattle.reading.proofs.log.Statement.{statement}

@@ -3,8 +3,8 @@ use mathlib.Core.Path.{_≡_, sym, ap, _∙_}
 use Prim.Native.Nat.{ℕ}
 use native.Mathlib.Omega.{arith}
 use Rattle.world.specs.SoundLaws.{size-high}
-use Rattle.world.specs.Words.{needs-world, gives}
-use Rattle.world.specs.Answers.{outcome-number, refusal-number}
+use Rattle.definitions.specs.Words.{needs-world, gives}
+use Rattle.definitions.specs.Answers.{outcome-number, refusal-number}
 use Rattle.keeps.specs.Keeps.{SoundWords, taken-sound-words}
 use Rattle.refusals.specs.Refused.{refusal-some}
 use Rattle.reading.specs.Tested.{log-refused, log-absent, log-there}

@@ -7,9 +7,10 @@ use Prim.Native.Nat.{ℕ, _-_, _≤_, _<_}
 use native.Mathlib.Omega.{arith}
 use borrow.Author.Needs.{needs}
 use native.Mathlib.Nat.{sub-zero}
-use Rattle.base.specs.Search.{first-from, first-skip, first-hit, first-end}
+use Rattle.definitions.specs.General.{first-from}
+use Rattle.base.specs.Search.{first-skip, first-hit, first-end}
 use Rattle.world.specs.Layout.{reads-cell}
-use Rattle.world.specs.World.{State, encode, count}
+use Rattle.definitions.specs.World.{State, encode, count}
 use Rattle.ready.specs.Ready.{looked, looked-at, passed-over}
 use Rattle.ready.proofs.first_ready.Statement.{statement}
 use Rattle.ready.proofs.first_ready.Tie as tie

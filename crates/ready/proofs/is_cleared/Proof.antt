@@ -3,7 +3,7 @@ use mathlib.Core.Path.{sym, _∙_}
 use native.Mathlib.Omega.{arith}
 use borrow.Author.Needs.{needs}
 use borrow.Author.Tests.{not-true, not-false}
-use Rattle.world.specs.World.{view}
+use Rattle.definitions.specs.World.{view}
 use Rattle.ready.specs.Ready.{cleared-lacks, cleared-is}
 use Rattle.ready.proofs.is_cleared.Statement.{statement}
 use Rattle.ready.proofs.is_cleared.Tie as tie

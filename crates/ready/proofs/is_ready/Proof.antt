@@ -1,7 +1,7 @@
 -- `ready::is_ready` meets its contract. Assumes nothing.
 use mathlib.Core.Path.{sym, _∙_}
 use borrow.Author.Tests.{not-true, not-false}
-use Rattle.world.specs.World.{view}
+use Rattle.definitions.specs.World.{view}
 use Rattle.ready.specs.Ready.{ready-law, ready-not-held, ready-not-next, ready-cleared}
 use borrow.Author.Needs.{needs}
 use Rattle.ready.proofs.is_ready.Statement.{statement}

@@ -2,7 +2,7 @@
 use mathlib.Core.Path.{refl, sym, _∙_}
 use borrow.Author.Needs.{needs}
 use borrow.Author.Tests.{not-true, not-false}
-use Rattle.world.specs.World.{view}
+use Rattle.definitions.specs.World.{view}
 use Rattle.ready.specs.Ready.{ready-law, ready-not-next, ready-cleared}
 use Rattle.ready.proofs.is_ready_held.Statement.{statement}
 use Rattle.ready.proofs.is_ready_held.Tie as tie

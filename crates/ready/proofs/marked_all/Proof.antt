@@ -1,7 +1,7 @@
 -- `ready::marked_all` meets its contract. Assumes nothing.
 use mathlib.Core.Path.{sym, _∙_}
 use borrow.Author.Needs.{needs}
-use Rattle.world.specs.World.{view}
+use Rattle.definitions.specs.World.{view}
 use Rattle.ready.specs.Ready.{waits-lacks, none-missing}
 use Rattle.ready.proofs.marked_all.Statement.{statement}
 use Rattle.ready.proofs.marked_all.Tie as tie

@@ -1,6 +1,6 @@
 -- `ready::missing` meets its contract. Assumes nothing.
 use borrow.Author.Needs.{needs}
-use Rattle.world.specs.World.{view}
+use Rattle.definitions.specs.World.{view}
 use Rattle.ready.specs.Ready.{missing-count}
 use Rattle.ready.proofs.missing.Statement.{statement}
 use Rattle.ready.proofs.missing.Tie as tie

@@ -1,7 +1,7 @@
 -- `ready::waits_for_lowest` meets its contract. Assumes nothing.
 use borrow.Author.Needs.{needs}
 use native.Mathlib.Omega.{arith}
-use Rattle.world.specs.World.{view}
+use Rattle.definitions.specs.World.{view}
 use Rattle.ready.specs.Ready.{waits-yes, waits-no}
 use Rattle.ready.proofs.waits_for_lowest.Statement.{statement}
 use Rattle.ready.proofs.waits_for_lowest.Tie as tie

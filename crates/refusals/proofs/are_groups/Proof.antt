@@ -6,9 +6,9 @@ use Prim.Native.Nat.{_-_, _≤_}
 use native.Mathlib.Omega.{arith}
 use borrow.Author.Tests.{not-true, not-false}
 use borrow.Author.Needs.{needs}
-use Rattle.base.specs.Search.{every, every-intro, every-more, every-fails}
-use Rattle.base.specs.Bits.{only}
-use Rattle.world.specs.World.{view}
+use Rattle.definitions.specs.General.{every, only}
+use Rattle.base.specs.Search.{every-intro, every-more, every-fails}
+use Rattle.definitions.specs.World.{view}
 use Rattle.refusals.specs.Refused.{named-well}
 use Rattle.refusals.proofs.are_groups.Statement.{statement}
 use Rattle.refusals.proofs.are_groups.Tie as tie

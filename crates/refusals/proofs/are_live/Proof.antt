@@ -2,8 +2,8 @@
 use mathlib.Core.Path.{sym, ap, _∙_}
 use mathlib.Core.Bool.{Bool, _&&_}
 use borrow.Author.Tests.{not-true, not-false}
-use Rattle.world.specs.World.{view}
-use Rattle.world.specs.Steps.{is-up}
+use Rattle.definitions.specs.World.{view}
+use Rattle.definitions.specs.Steps.{is-up}
 use borrow.Author.Needs.{needs}
 use Rattle.refusals.proofs.are_live.Statement.{statement}
 use Rattle.refusals.proofs.are_live.Tie as tie

@@ -2,7 +2,7 @@
 use mathlib.Core.Path.{ap, _∙_}
 use Prim.Native.Nat.{ℕ}
 use borrow.Author.Needs.{needs}
-use Rattle.base.specs.Bits.{bit}
+use Rattle.definitions.specs.General.{bit}
 use Rattle.refusals.proofs.flies.Statement.{statement}
 use Rattle.refusals.proofs.flies.Tie as tie
 

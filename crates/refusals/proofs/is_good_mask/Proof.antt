@@ -1,7 +1,7 @@
 -- `refusals::is_good_mask` meets its contract. Assumes nothing.
 use native.Mathlib.Omega.{arith}
 use borrow.Author.Tests.{lt-ltb, le-ltb}
-use Rattle.world.specs.World.{view}
+use Rattle.definitions.specs.World.{view}
 use Rattle.refusals.specs.Refused.{mask-empty, mask-large, mask-is}
 use borrow.Author.Needs.{needs}
 use Rattle.refusals.proofs.is_good_mask.Statement.{statement}

@@ -8,9 +8,10 @@ use lib.Dec.{eqb}
 use borrow.Author.Tests.{eq-eqb}
 use borrow.Author.Needs.{needs}
 use Rattle.base.specs.Tests.{is-other}
-use Rattle.base.specs.Search.{every, some, every-intro, every-more, some-i}
-use Rattle.world.specs.World.{size, group, view}
-use Rattle.world.specs.Steps.{has-group}
+use Rattle.definitions.specs.General.{every, some}
+use Rattle.base.specs.Search.{every-intro, every-more, some-i}
+use Rattle.definitions.specs.World.{size, group, view}
+use Rattle.definitions.specs.Steps.{has-group}
 use Rattle.refusals.proofs.is_group.Statement.{statement}
 use Rattle.refusals.proofs.is_group.Tie as tie
 

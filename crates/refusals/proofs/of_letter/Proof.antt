@@ -3,9 +3,9 @@ use mathlib.Core.Path.{_≡_, refl, sym, ap, _∙_}
 use mathlib.Core.Bool.{true, not, _||_}
 use Prim.Native.Nat.{ℕ, _<_}
 use borrow.Author.Tests.{not-true, not-false}
-use Rattle.base.specs.Tests.{pick}
-use Rattle.world.specs.World.{view}
-use Rattle.world.specs.Steps.{is-up, arrives, loses, in-flight, refusal}
+use Rattle.definitions.specs.General.{pick}
+use Rattle.definitions.specs.World.{view}
+use Rattle.definitions.specs.Steps.{is-up, arrives, loses, in-flight, refusal}
 use Rattle.refusals.specs.Refused.{fails, passes, front-refused, front-taken, operands-low, flight-refusal, letter-front}
 use borrow.Author.Needs.{needs}
 use Rattle.refusals.proofs.of_letter.Statement.{statement}

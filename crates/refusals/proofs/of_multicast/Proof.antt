@@ -4,10 +4,10 @@ use Prim.Native.Nat.{ℕ}
 use native.Mathlib.Omega.{arith}
 use lib.Dec.{ltb}
 use borrow.Author.Tests.{lt-ltb, le-ltb}
-use Rattle.base.specs.Refusals.{needs as test}
-use Rattle.world.specs.World.{count, view}
-use Rattle.world.specs.Steps.{multicasts, good-mask, refusal}
-use Rattle.world.specs.Answers.{outcome-number}
+use Rattle.definitions.specs.General.{needs as test}
+use Rattle.definitions.specs.World.{count, view}
+use Rattle.definitions.specs.Steps.{multicasts, good-mask, refusal}
+use Rattle.definitions.specs.Answers.{outcome-number}
 use Rattle.refusals.specs.Refused.{fails, passes, process-refusal, front-refused, front-taken, multicast-front}
 use borrow.Author.Needs.{needs}
 use Rattle.refusals.proofs.of_multicast.Statement.{statement}

@@ -1,5 +1,5 @@
 -- `refusals::of_trust` meets its contract. Assumes nothing.
-use Rattle.world.specs.Steps.{refusal}
+use Rattle.definitions.specs.Steps.{refusal}
 use borrow.Author.Needs.{needs}
 use Rattle.refusals.proofs.of_trust.Statement.{statement}
 use Rattle.refusals.proofs.of_trust.Tie as tie

@@ -5,7 +5,7 @@ use Prim.Native.Nat.{_+_, _-_, _≤_}
 use native.Mathlib.Omega.{arith}
 use lib.Dec.{eqb}
 use lib.ListN.{getD}
-use Rattle.base.specs.Search.{every}
+use Rattle.definitions.specs.General.{every}
 use Rattle.ranges.specs.Laws.{every-none, gathers, gathered}
 use Rattle.regions.specs.Nexts.{next-of, nexts-at}
 use borrow.Author.Needs.{needs}

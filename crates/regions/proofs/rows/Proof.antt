@@ -4,7 +4,7 @@ use mathlib.Core.Path.{_≡_, _∙_}
 use Prim.Native.Nat.{_+_, _-_, _*_, _≤_}
 use native.Mathlib.Omega.{arith}
 use lib.ListN.{getD}
-use Rattle.base.specs.Search.{every}
+use Rattle.definitions.specs.General.{every}
 use Rattle.ranges.specs.Laws.{every-none, gathers, gathered}
 use Rattle.regions.specs.Rows.{row-ok, rows-law}
 use borrow.Author.Needs.{needs}

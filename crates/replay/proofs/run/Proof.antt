@@ -7,10 +7,10 @@ use Prim.Native.Nat.{ℕ}
 use native.Mathlib.Omega.{arith}
 use lib.Dec.{eqb}
 use borrow.Author.Tests.{eqb-true}
-use Rattle.base.specs.Tests.{pick}
-use Rattle.world.specs.Words.{gives, refuses}
+use Rattle.definitions.specs.General.{pick}
+use Rattle.definitions.specs.Words.{gives, refuses}
 use Rattle.keeps.specs.Keeps.{SoundWords}
-use Rattle.replaying.specs.Replay.{Counts, replay, replay-refusal, replay-reply, steps-in}
+use Rattle.definitions.specs.Replay.{Counts, replay, replay-refusal, replay-reply, steps-in}
 use Rattle.replaying.specs.Answers.{replaying-reply}
 use Rattle.replaying.specs.Laws.{replay-sound}
 use borrow.Author.Needs.{needs}

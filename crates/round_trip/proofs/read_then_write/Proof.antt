@@ -7,7 +7,7 @@ use lib.Dec.{eqb}
 use lib.ListN.{length}
 use borrow.Author.Tests.{not-true, not-false}
 use Rattle.parts.specs.Parts.{Bytes}
-use Rattle.journal.specs.Journal.{write-refusal, written, read-refusal, read-out}
+use Rattle.definitions.specs.Journal.{write-refusal, written, read-refusal, read-out}
 use Rattle.round_trip.specs.Calls.{read-refused, read-written}
 use borrow.Author.Needs.{needs}
 use Rattle.round_trip.proofs.read_then_write.Statement.{statement}

@@ -6,7 +6,7 @@ use Prim.Native.Nat.{ℕ}
 use lib.Dec.{eqb}
 use lib.ListN.{length}
 use borrow.Author.Tests.{not-true, not-false}
-use Rattle.journal.specs.Journal.{write-refusal, written, read-refusal, read-out}
+use Rattle.definitions.specs.Journal.{write-refusal, written, read-refusal, read-out}
 use Rattle.round_trip.specs.Calls.{write-refused, written-read}
 use borrow.Author.Needs.{needs}
 use Rattle.round_trip.proofs.write_then_read.Statement.{statement}

@@ -2,7 +2,7 @@
 use mathlib.Core.Path.{refl}
 use native.Mathlib.Omega.{arith}
 use borrow.Author.Needs.{needs}
-use Rattle.world.specs.World.{view}
+use Rattle.definitions.specs.World.{view}
 use Rattle.sends.specs.Sends.{in-turn-is}
 use Rattle.sends.proofs.in_turn.Statement.{statement}
 use Rattle.sends.proofs.in_turn.Tie as tie

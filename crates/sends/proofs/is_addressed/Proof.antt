@@ -3,8 +3,8 @@ use mathlib.Core.Path.{ap, _∙_}
 use Prim.Native.Nat.{ℕ}
 use native.Mathlib.Omega.{arith}
 use borrow.Author.Needs.{needs}
-use Rattle.base.specs.Bits.{bit}
-use Rattle.world.specs.World.{mask, view}
+use Rattle.definitions.specs.General.{bit}
+use Rattle.definitions.specs.World.{mask, view}
 use Rattle.sends.proofs.is_addressed.Statement.{statement}
 use Rattle.sends.proofs.is_addressed.Tie as tie
 

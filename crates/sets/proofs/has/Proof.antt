@@ -1,6 +1,6 @@
 -- `sets::has` meets its contract. Assumes nothing.
 use mathlib.Core.Path.{refl}
-use Rattle.base.specs.Bits.{bit}
+use Rattle.definitions.specs.General.{bit}
 use borrow.Author.Needs.{needs}
 use Rattle.sets.proofs.has.Statement.{statement}
 use Rattle.sets.proofs.has.Tie as tie

@@ -1,6 +1,6 @@
 -- `setup::bits` meets its contract. Assumes nothing.
 use native.Mathlib.Omega.{arith}
-use Rattle.world.specs.Setup.{setup-bits}
+use Rattle.definitions.specs.Setup.{setup-bits}
 use borrow.Author.Needs.{needs}
 use Rattle.setup.proofs.bits.Statement.{statement}
 use Rattle.setup.proofs.bits.Tie as tie

@@ -3,7 +3,7 @@ use mathlib.Core.Path.{_≡_, sym, ap₂, _∙_}
 use native.Mathlib.Omega.{arith}
 use Prim.Native.Nat.{ℕ}
 use mathlib.Core.Path.{refl}
-use Rattle.world.specs.Setup.{setup-bits, good-setup}
+use Rattle.definitions.specs.Setup.{setup-bits, good-setup}
 use Rattle.setup.specs.Groups.{good-rest, good-front, wrong-length, wrong-first, too-few, too-many, bits-past, gap-decides}
 use borrow.Author.Needs.{needs}
 use Rattle.setup.proofs.good.Statement.{statement}

@@ -5,7 +5,8 @@ use Prim.Native.Nat.{_-_, _≤_}
 use native.Mathlib.Omega.{arith}
 use lib.Dec.{eqb}
 use borrow.Author.Tests.{eq-eqb}
-use Rattle.base.specs.Search.{every, every-more, some, some-i}
+use Rattle.definitions.specs.General.{every, some}
+use Rattle.base.specs.Search.{every-more, some-i}
 use Rattle.base.specs.Tests.{is-other}
 use Rattle.setup.specs.Groups.{group-in, has-group}
 use Rattle.setup.proofs.has.Statement.{statement}

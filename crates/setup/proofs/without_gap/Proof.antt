@@ -5,7 +5,8 @@ use mathlib.Core.Bool.{true}
 use Prim.Native.Nat.{_-_, _≤_}
 use native.Mathlib.Omega.{arith}
 use borrow.Author.Tests.{not-true, not-false}
-use Rattle.base.specs.Search.{every, every-more, every-fails}
+use Rattle.definitions.specs.General.{every}
+use Rattle.base.specs.Search.{every-more, every-fails}
 use Rattle.setup.specs.Groups.{follows, no-gap}
 use Rattle.setup.proofs.without_gap.Statement.{statement}
 use Rattle.setup.proofs.without_gap.Tie as tie

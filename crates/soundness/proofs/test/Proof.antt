@@ -2,7 +2,7 @@
 -- that is not sound. Assumes nothing.
 use mathlib.Core.Path.{sym, _∙_}
 use borrow.Author.Tests.{not-true, not-false}
-use Rattle.world.specs.World.{view}
+use Rattle.definitions.specs.World.{view}
 use Rattle.heads.specs.Known.{Sized, Grouped}
 use Rattle.soundness.specs.Whole.{not-sound, header-sound, header-sized, groups-sound, groups-placed, heads-sound, heads-headed}
 use borrow.Author.Needs.{needs}

@@ -1,7 +1,7 @@
 -- `stepping::judge` meets its contract: the kind of the step decides. Assumes nothing.
 use mathlib.Core.Path.{_≡_, refl}
-use Rattle.world.specs.World.{view}
-use Rattle.world.specs.Steps.{refusal}
+use Rattle.definitions.specs.World.{view}
+use Rattle.definitions.specs.Steps.{refusal}
 use Rattle.bounds.specs.Bounds.{Bounds, sound-bounds}
 use Rattle.stepping.specs.Stepping.{judged}
 use lib.ListN.{length}

@@ -1,7 +1,7 @@
 -- `stepping::step` meets its contract: what the refusal says decides. Assumes nothing.
 use mathlib.Core.Path.{sym, ap, _∙_}
-use Rattle.world.specs.World.{encode, view}
-use Rattle.world.specs.Steps.{Step, read, refusal, step}
+use Rattle.definitions.specs.World.{encode, view}
+use Rattle.definitions.specs.Steps.{Step, read, refusal, step}
 use Rattle.stepping.specs.Stepping.{taken-zero, refused-number, words-taken, words-refused}
 use borrow.Author.Needs.{needs}
 use Rattle.stepping.proofs.step.Statement.{statement}

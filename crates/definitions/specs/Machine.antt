@@ -4,12 +4,8 @@
 use mathlib.Core.Bool.{Bool, not, _&&_, _||_}
 use Prim.Native.Nat.{ℕ, zero, suc, _+_, _-_, max}
 use lib.Dec.{leb, eqb}
-use Rattle.base.specs.Tests.{pick}
-use Rattle.base.specs.Search.{every}
-use Rattle.base.specs.Count.{absent}
-use Rattle.base.specs.Loop.{loop}
-use Rattle.base.specs.Bits.{bit, with, without, mask-of}
-use Rattle.world.specs.World.{size, count, rule, group, trust, counter, sequence, next, delivered, up, fifo-length, causal-length, held, marks, fifo, causal, sender, mask, stamp, number, flight, order, unused, State, put}
+use Rattle.definitions.specs.General.{pick, every, absent, loop, bit, with, without, mask-of}
+use Rattle.definitions.specs.World.{size, count, rule, group, trust, counter, sequence, next, delivered, up, fifo-length, causal-length, held, marks, fifo, causal, sender, mask, stamp, number, flight, order, unused, State, put}
 
 -- ---- the tables of a state: C and b of the processes, and C and s on the messages
 pub record Tables : Type 0 where

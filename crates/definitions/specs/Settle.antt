@@ -4,10 +4,10 @@
 use mathlib.Core.Bool.{Bool, true, false, _&&_}
 use Prim.Native.Nat.{ℕ, zero, suc, _+_}
 use lib.Dec.{ltb}
-use Rattle.base.specs.Search.{first-from}
-use Rattle.world.specs.World.{size, count, State}
-use Rattle.world.specs.Machine.{arrival}
-use Rattle.world.specs.Steps.{is-up, in-flight}
+use Rattle.definitions.specs.General.{first-from}
+use Rattle.definitions.specs.World.{size, count, State}
+use Rattle.definitions.specs.Machine.{arrival}
+use Rattle.definitions.specs.Steps.{is-up, in-flight}
 
 -- ---- the choice: a letter (kind, message, from, to), or nothing
 pub data Choice : Type 0 where
@@ -68,7 +68,3 @@ module _ {S : Type 0} (choose : S → Choice) (arrive : S → ℕ → ℕ → �
         | letter k m q p ↦ settle-from b (n + 1) (arrive s k m q p)
         | nothing ↦ record { world = s; ending = done n }
       ]
-
--- Settle on a state, with a budget and document 01's choice.
-unfoldable pub settle : State → ℕ → Settled State
-settle s b = settle-from lowest arrival b 0 s

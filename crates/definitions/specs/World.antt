@@ -1,14 +1,11 @@
 -- The world of document 01, section "The world": its named words (cells), their places among the 20,480
--- words, a state as what stands in each cell, and the words of a state. Laws about them are in Layout. It
--- rests on lists given by a function (base, Tabulate). Assumes nothing.
-use mathlib.Core.Path.{_≡_}
+-- words, a state as what stands in each cell, and the words of a state. It rests on General. Assumes nothing.
 use mathlib.Core.List.{List, [], _∷_}
-use Prim.Native.Nat.{ℕ, _+_, _-_, _*_, _/_, _%_, _<_}
+use Prim.Native.Nat.{ℕ, _+_, _-_, _*_, _/_, _%_}
 use native.Mathlib.Decide.{ℕ-discrete}
 use lib.Dec.{ltb}
 use lib.ListN.{getD}
-use Rattle.base.specs.Tests.{pick}
-use Rattle.base.specs.Tabulate.{tabulate}
+use Rattle.definitions.specs.General.{pick, tabulate}
 
 -- The words of a world by name.
 pub data Cell : Type 0 where
@@ -59,33 +56,6 @@ addr (number m g) = 6867 + m * 187 + 130 + g
 addr (flight m k q) = 6867 + m * 187 + 138 + (k * 16 + q)
 addr (order m) = 6867 + m * 187 + 186
 addr (unused i) = 18835 + i
-
--- The cell is one of the world's: 16 processes, 8 groups, 64 messages, 3 kinds of letters, 1,645 unused
--- words.
-abbrev pub Within : Cell → Type 0
-Within size = Unit {0}
-Within count = Unit {0}
-Within rule = Unit {0}
-Within (group p) = p < 16
-Within (trust p) = p < 16
-Within (counter p g q) = (p < 16) × (g < 8) × (q < 16)
-Within (sequence p g) = (p < 16) × (g < 8)
-Within (next p q) = (p < 16) × (q < 16)
-Within (delivered p q) = (p < 16) × (q < 16)
-Within (up p) = p < 16
-Within (fifo-length p) = p < 16
-Within (causal-length p) = p < 16
-Within (held p m) = (p < 16) × (m < 64)
-Within (marks p m) = (p < 16) × (m < 64)
-Within (fifo p i) = (p < 16) × (i < 64)
-Within (causal p i) = (p < 16) × (i < 64)
-Within (sender m) = m < 64
-Within (mask m) = m < 64
-Within (stamp m g q) = (m < 64) × (g < 8) × (q < 16)
-Within (number m g) = (m < 64) × (g < 8)
-Within (flight m k q) = (m < 64) × (k < 3) × (q < 16)
-Within (order m) = m < 64
-Within (unused i) = i < 1645
 
 -- The cell at a place: regions of cells, one after the other, each of some length.
 pub record Region : Type 0 where
@@ -151,11 +121,3 @@ encode s = tabulate 20480 (λ a. s (cell-at a))
 -- The state that words hold.
 abbrev pub view : List ℕ → State
 view w c = getD w (addr c) 0
-
--- Of words w that became u: whatever state w was, u is that state changed by f.
-abbrev pub Changes : List ℕ → List ℕ → (State → State) → Type 0
-Changes w u f = (s : State) → w ≡ encode s → u ≡ encode (f s)
-
--- Of a value a read from words w: whatever state w is, a is f of it.
-abbrev pub Reads : {A : Type 0} → List ℕ → A → (State → A) → Type 0
-Reads w a f = (s : State) → w ≡ encode s → a ≡ f s

@@ -5,13 +5,9 @@ use mathlib.Core.List.{List}
 use Prim.Native.Nat.{ℕ, _+_, _*_, _^_}
 use lib.Dec.{ltb, eqb}
 use lib.ListN.{length}
-use Rattle.base.specs.Tests.{pick}
-use Rattle.base.specs.Refusals.{needs}
-use Rattle.base.specs.Search.{every, some}
-use Rattle.base.specs.Bits.{bit, only}
-use Rattle.world.specs.World.{size, count, group, up, flight, State}
-use Rattle.world.specs.Setup.{byte}
-use Rattle.world.specs.Machine.{multicast, leave, arrival, trust-set, crash}
+use Rattle.definitions.specs.General.{pick, needs, every, some, bit, only, byte, low-first}
+use Rattle.definitions.specs.World.{size, count, group, up, flight, State}
+use Rattle.definitions.specs.Machine.{multicast, leave, arrival, trust-set, crash}
 
 -- ---- "A step is 8 bytes: kind, operands, zeros."
 -- multicast: process, group mask; arrival and loss: letter kind, message, from, to; trust: process, mask;
@@ -28,11 +24,8 @@ pub data Step : Type 0 where
 abbrev pub zeros-from : List ℕ → ℕ → Bool
 zeros-from bytes i = every 8 (λ j. ltb j i || eqb (byte bytes j) 0)
 
--- "16-bit mask, low byte first": at byte i.
-abbrev pub word-at : List ℕ → ℕ → ℕ
-word-at bytes i = byte bytes i + byte bytes (i + 1) * 256
-
--- "not 8 bytes, kind outside 1 to 5, letter kind above 2, unused byte not zero" is malformed.
+-- "not 8 bytes, kind outside 1 to 5, letter kind above 2, unused byte not zero" is malformed. A trust mask has
+-- 16 bits, "low byte first".
 unfoldable pub read : List ℕ → Step
 read bytes =
     pick (not (eqb (length bytes) 8)) malformed
@@ -41,7 +34,7 @@ read bytes =
     (arrives (byte bytes 1) (byte bytes 2) (byte bytes 3) (byte bytes 4))
     (pick (eqb (byte bytes 0) 3 && ltb (byte bytes 1) 3 && zeros-from bytes 5)
     (loses (byte bytes 1) (byte bytes 2) (byte bytes 3) (byte bytes 4))
-    (pick (eqb (byte bytes 0) 4 && zeros-from bytes 4) (trusts (byte bytes 1) (word-at bytes 2))
+    (pick (eqb (byte bytes 0) 4 && zeros-from bytes 4) (trusts (byte bytes 1) (low-first bytes 2))
     (pick (eqb (byte bytes 0) 5 && zeros-from bytes 2) (crashes (byte bytes 1)) malformed)))))
 
 -- ---- the conditions of the refusals

@@ -7,12 +7,12 @@ use mathlib.Core.List.{List}
 use mathlib.Core.Logic.{_≢_, _↔_}
 use Prim.Native.Nat.{ℕ, _≤_, _<_}
 use lib.ListN.{length, getD}
-use Rattle.base.specs.Count.{In}
-use Rattle.world.specs.World.{size, count, up, sender, view}
-use Rattle.world.specs.Machine.{addressed}
-use Rattle.world.specs.Settle.{Ending, done, stopped}
-use Rattle.world.specs.Words.{Reply, gives, making-refusal, settled-words, settle-reply, log-words}
-use Rattle.world.specs.History.{Before, Run, Item, on-words, run, started-words, TrustRule}
+use Rattle.definitions.specs.General.{In}
+use Rattle.definitions.specs.World.{size, count, up, sender, view}
+use Rattle.definitions.specs.Machine.{addressed}
+use Rattle.definitions.specs.Settle.{Ending, done, stopped}
+use Rattle.definitions.specs.Words.{Reply, gives, making-refusal, settled-words, settle-reply, log-words, on-words, started-words}
+use Rattle.definitions.specs.History.{Before, Run, Item, run, TrustRule}
 
 -- m stands in the list; the list has no number twice.
 abbrev pub Listed : List ℕ → ℕ → Type 0

@@ -2,16 +2,16 @@
 -- ("Where an answer is an enum, there is a definition that gives this paper's number and values for each of
 -- its cases"). It rests on the replies of Words. Assumes nothing.
 use Prim.Native.Nat.{ℕ}
-use Rattle.world.specs.Settle.{Ending, done, stopped}
-use Rattle.world.specs.Words.{Reply, gives, refuses}
-use Rattle.world.specs.declared.Refusal.{Refusal}
-use Rattle.world.specs.declared.Refusal.the-variants.{WorldLength, WorldUnsound, BadSetup, Malformed, NoProcess, BadMask, NoMessage, BadTrust, Down, Full, NotInFlight, BothUp}
-use Rattle.world.specs.declared.Outcome.{Outcome}
-use Rattle.world.specs.declared.Outcome.the-variants as outcome
-use Rattle.world.specs.declared.Settling.{Settling}
-use Rattle.world.specs.declared.Settling.the-variants as settling
-use Rattle.world.specs.declared.LogLength.{LogLength}
-use Rattle.world.specs.declared.LogLength.the-variants as log-length
+use Rattle.definitions.specs.Settle.{Ending, done, stopped}
+use Rattle.definitions.specs.Words.{Reply, gives, refuses}
+use Rattle.definitions.specs.declared.Refusal.{Refusal}
+use Rattle.definitions.specs.declared.Refusal.the-variants.{WorldLength, WorldUnsound, BadSetup, Malformed, NoProcess, BadMask, NoMessage, BadTrust, Down, Full, NotInFlight, BothUp}
+use Rattle.definitions.specs.declared.Outcome.{Outcome}
+use Rattle.definitions.specs.declared.Outcome.the-variants as outcome
+use Rattle.definitions.specs.declared.Settling.{Settling}
+use Rattle.definitions.specs.declared.Settling.the-variants as settling
+use Rattle.definitions.specs.declared.LogLength.{LogLength}
+use Rattle.definitions.specs.declared.LogLength.the-variants as log-length
 
 -- The refusals by number.
 abbrev pub refusal-number : Refusal → ℕ

@@ -1,20 +1,16 @@
 -- The history of a list of items, and what is said of it: document 01, section "Precedence, trust rule,
 -- settle". Events, precedence with no counter in it, the run of items that are steps (any bytes at all) or
 -- settles, the trust rule. A run is taken over states or over lent words by the same definitions. It rests
--- on Steps, Settle and Words. Assumes nothing.
+-- on Steps and Settle. Assumes nothing.
 use mathlib.Core.Path.{_≡_}
 use mathlib.Core.Bool.{Bool, true, _&&_}
 use mathlib.Core.List.{List, [], _∷_}
 use Prim.Native.Nat.{ℕ, zero, suc, _+_, _-_, _<_}
-use lib.Dec.{eqb}
 use lib.ListN.{length}
-use Rattle.base.specs.Tests.{pick}
-use Rattle.base.specs.Bits.{bit}
-use Rattle.world.specs.World.{size, count, group, trust, up, causal-length, causal, State, view}
-use Rattle.world.specs.Setup.{made}
-use Rattle.world.specs.Steps.{Step, multicasts, arrives, loses, trusts, crashes, malformed, read, is-up, accepted, step}
-use Rattle.world.specs.Settle.{lowest, settle-from}
-use Rattle.world.specs.Words.{needs-world, made-words, step-words}
+use Rattle.definitions.specs.General.{pick, bit}
+use Rattle.definitions.specs.World.{size, count, group, trust, up, causal-length, causal, State}
+use Rattle.definitions.specs.Steps.{Step, multicasts, arrives, loses, trusts, crashes, malformed, read, is-up, accepted, step}
+use Rattle.definitions.specs.Settle.{lowest, settle-from}
 
 -- ---- "Events are accepted multicasts and causal deliveries": p multicast m; p causally delivered m.
 pub data Event : Type 0 where
@@ -73,13 +69,6 @@ pub record Engine (S : Type 0) : Type 0 where
   pub world : S → Bool
   pub does : S → Step → S
 
--- Over states; and over lent words, where words that are no sound world are refused.
-abbrev pub on-states : Engine State
-on-states = record { reads = λ s. s; world = λ s. true; does = step }
-
-abbrev pub on-words : Engine (List ℕ)
-on-words = record { reads = view; world = λ w. eqb (needs-world w 0) 0; does = step-words }
-
 -- A run: what there is now, and the history so far.
 pub record Run (S : Type 0) : Type 0 where
   pub now : S
@@ -115,14 +104,6 @@ module _ {S : Type 0} (e : Engine S) where
   unfoldable pub run : Run S → List Item → Run S
   run r [] = r
   run r (i ∷ is) = run (act r i) is
-
--- "The list of demand 3 starts from a fresh world, one just made from a setup record": of a state, and of
--- lent words.
-abbrev pub started : List ℕ → Run State
-started setup = record { now = made setup; seen = [] }
-
-abbrev pub started-words : List ℕ → List ℕ → Run (List ℕ)
-started-words w setup = record { now = made-words w setup; seen = [] }
 
 -- ---- the trust rule
 -- "names for each group that has members up at the end at least one of those": p trusts one of the live

@@ -1,15 +1,11 @@
 -- When a world is sound: document 01, section "The world", its last paragraph. Each cell has a test of the
--- word in it, a clause for each sentence; a world is sound when every word passes. The facts that follow
--- are in SoundLaws. It rests on the cells of World. Assumes nothing.
-use mathlib.Core.Path.{_≡_}
+-- word in it, a clause for each sentence; a world is sound when every word passes. It rests on the cells of
+-- World. Assumes nothing.
 use mathlib.Core.Bool.{Bool, true, false, not, _&&_}
 use Prim.Native.Nat.{ℕ, _+_}
 use lib.Dec.{ltb, leb, eqb}
-use Rattle.base.specs.Tests.{pick}
-use Rattle.base.specs.Search.{every, some}
-use Rattle.base.specs.Count.{tally, absent}
-use Rattle.base.specs.Bits.{bit, only}
-use Rattle.world.specs.World.{Cell, size, count, rule, group, trust, counter, sequence, next, delivered, up, fifo-length, causal-length, held, marks, fifo, causal, sender, mask, stamp, number, flight, order, unused, Within, State, cell-at}
+use Rattle.definitions.specs.General.{pick, every, some, tally, absent, bit, only}
+use Rattle.definitions.specs.World.{Cell, size, count, rule, group, trust, counter, sequence, next, delivered, up, fifo-length, causal-length, held, marks, fifo, causal, sender, mask, stamp, number, flight, order, unused, State, cell-at}
 
 -- ---- what the test of a cell looks at besides the word in it
 pub record Frame : Type 0 where
@@ -113,9 +109,6 @@ fit f (unused i) x = eqb x 0
 unfoldable pub fine : State → Cell → Bool
 fine s c = fit (frame s) c (s c)
 
--- A world is sound when every word of it passes; as a test, and as the fact about its cells.
+-- A world is sound when every word of it passes.
 unfoldable pub sound : State → Bool
 sound s = every 20480 (λ a. fine s (cell-at a))
-
-abbrev pub Sound : State → Type 0
-Sound s = (c : Cell) → Within c → fine s c ≡ true

@@ -1,20 +1,20 @@
 -- What the public calls do to lent words and bytes: document 01, sections "Logs and journal" and
 -- "Refusals". Each call first refuses words that are no sound world (1, 2), then what its own sentence
--- refuses, lowest number first; a refusal leaves the words as they were. It rests on Sound, Setup, Steps
--- and Settle. Assumes nothing.
+-- refuses, lowest number first; a refusal leaves the words as they were. It rests on Sound, Setup, Steps,
+-- Settle and History. Assumes nothing.
 use mathlib.Core.Bool.{Bool, true, false}
 use mathlib.Core.List.{List, []}
 use Prim.Native.Nat.{ℕ}
 use lib.Dec.{eqb}
 use lib.ListN.{length, take, drop}
-use Rattle.base.specs.Tests.{pick}
-use Rattle.base.specs.Refusals.{needs}
-use Rattle.world.specs.World.{fifo-length, causal-length, fifo, causal, addr, State, encode, view}
-use Rattle.world.specs.Sound.{sound}
-use Rattle.world.specs.Setup.{setup-refusal, made}
-use Rattle.world.specs.Machine.{arrival}
-use Rattle.world.specs.Steps.{Step, read, refusal, is-process, step}
-use Rattle.world.specs.Settle.{Ending, Settled, lowest, settle-from}
+use Rattle.definitions.specs.General.{pick, needs}
+use Rattle.definitions.specs.World.{fifo-length, causal-length, fifo, causal, addr, State, encode, view}
+use Rattle.definitions.specs.Sound.{sound}
+use Rattle.definitions.specs.Setup.{setup-refusal, made}
+use Rattle.definitions.specs.Machine.{arrival}
+use Rattle.definitions.specs.Steps.{Step, read, refusal, is-process, step}
+use Rattle.definitions.specs.Settle.{Ending, Settled, lowest, settle-from}
+use Rattle.definitions.specs.History.{Engine, Run}
 
 -- ---- refusals 1 and 2
 -- "1 world not 20,480 words; 2 world not sound", else what follows.
@@ -85,3 +85,11 @@ log-words w p log =
 -- "a second call gives its length or the refusal"
 unfoldable pub length-reply : List ℕ → ℕ → Bool → Reply ℕ
 length-reply w p log = reply (log-refusal w p) (log-length (view w) p log)
+
+-- ---- a list of items on lent words (History): a step or a settle is refused where these are no sound world
+abbrev pub on-words : Engine (List ℕ)
+on-words = record { reads = view; world = λ w. eqb (needs-world w 0) 0; does = step-words }
+
+-- "The list of demand 3 starts from a fresh world, one just made from a setup record."
+abbrev pub started-words : List ℕ → List ℕ → Run (List ℕ)
+started-words w setup = record { now = made-words w setup; seen = [] }

@@ -5,14 +5,8 @@ use mathlib.Core.List.{List}
 use Prim.Native.Nat.{ℕ, _+_, _-_, _*_, _/_, _%_, _^_}
 use lib.Dec.{ltb, leb, eqb}
 use lib.ListN.{length, getD}
-use Rattle.base.specs.Tests.{pick}
-use Rattle.base.specs.Refusals.{needs}
-use Rattle.base.specs.Search.{every, some}
-use Rattle.world.specs.World.{size, count, rule, group, trust, counter, sequence, next, delivered, up, fifo-length, causal-length, held, marks, fifo, causal, sender, mask, stamp, number, flight, order, unused, State}
-
--- Byte i of a record.
-abbrev pub byte : List ℕ → ℕ → ℕ
-byte bytes i = getD bytes i 0
+use Rattle.definitions.specs.General.{pick, needs, every, some, byte}
+use Rattle.definitions.specs.World.{size, count, rule, group, trust, counter, sequence, next, delivered, up, fifo-length, causal-length, held, marks, fifo, causal, sender, mask, stamp, number, flight, order, unused, State}
 
 -- ---- a fresh world of n processes, process p of group (groups p)
 -- "next[q] (fresh: 1 for q below n), del[q], all else 0. The trust set starts as all n processes." A process

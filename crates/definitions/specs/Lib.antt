@@ -1,0 +1,15 @@
+pub mod General
+pub mod World
+pub mod Sound
+pub mod Setup
+pub mod Machine
+pub mod Steps
+pub mod Settle
+pub mod History
+pub mod Words
+pub mod Checksum
+pub mod Block
+pub mod Journal
+pub mod Replay
+pub mod Answers
+pub mod Demand
