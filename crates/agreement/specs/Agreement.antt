@@ -15,9 +15,8 @@ use borrow.Author.Tests.{eqb-true, eq-eqb}
 use Rattle.definitions.specs.General.{pick, tally, in-at, bit}
 use Rattle.base.specs.Tests.{bool-cases, clash, strong, pick-yes, both, both-i, eqb-refl}
 use Rattle.base.specs.Count.{tally-cong}
-use Rattle.definitions.specs.World.{size, count, group, up, next, marks, sender, mask, stamp, number, flight, State}
+use Rattle.definitions.specs.World.{size, count, group, up, next, marks, sender, mask, stamp, number, flight, State, addressed}
 use Rattle.world.specs.SoundLaws.{next-is}
-use Rattle.definitions.specs.Machine.{addressed}
 use Rattle.definitions.specs.Steps.{is-up}
 use Rattle.definitions.specs.History.{Run, Fair}
 use Rattle.effects.specs.Views.{Messages, messages, place}

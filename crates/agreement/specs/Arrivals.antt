@@ -12,10 +12,10 @@ use lib.Dec.{eqb}
 use borrow.Author.Tests.{eqb-false, ltb-true}
 use Rattle.definitions.specs.General.{pick, In, in-at, bit, with}
 use Rattle.base.specs.Bits.{with-old, with-hit, with-cases, bit-mask-of}
-use Rattle.definitions.specs.World.{size, count, group, trust, up, fifo-length, next, held, marks, fifo, sender, mask, stamp, number, flight, State, put}
+use Rattle.definitions.specs.World.{size, count, group, trust, up, fifo-length, next, held, marks, fifo, sender, mask, stamp, number, flight, State, put, addressed}
 use Rattle.world.specs.Layout.{put-same, put-at}
 use Rattle.world.specs.SoundLaws.{Sound, size-high, letter-facts, held-facts, mark-facts, sender-low, fifo-addressed}
-use Rattle.definitions.specs.Machine.{with-tables, addressed, addressees, in-turn, raised, stamped, numbered, multicast, leave, mark, received, posted as post}
+use Rattle.definitions.specs.Machine.{with-tables, addressees, in-turn, raised, stamped, numbered, multicast, leave, mark, received, posted as post}
 use Rattle.world.specs.StepLaws.{InFlight}
 use Rattle.definitions.specs.History.{Event}
 use Rattle.world.specs.Kept.{mark-cases, hold-cases}

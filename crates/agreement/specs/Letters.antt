@@ -9,8 +9,7 @@ use mathlib.Core.Logic.{_⊎_, inl, inr, _≢_}
 use Prim.Native.Nat.{ℕ, _<_}
 use native.Mathlib.Omega.{arith}
 use Rattle.definitions.specs.General.{bit}
-use Rattle.definitions.specs.World.{size, count, up, fifo-length, marks, fifo, sender, State}
-use Rattle.definitions.specs.Machine.{addressed}
+use Rattle.definitions.specs.World.{size, count, up, fifo-length, marks, fifo, sender, State, addressed}
 use Rattle.effects.specs.Cascade.{Near}
 use Rattle.effects.specs.Arrival.{Held, Fly}
 use Rattle.effects.specs.Spent.{Once}

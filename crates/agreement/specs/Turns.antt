@@ -15,8 +15,8 @@ use Rattle.base.specs.Loop.{loop-keeps}
 use Rattle.base.specs.Search.{every-true, every-false}
 use Rattle.definitions.specs.General.{In, in-at, bit}
 use Rattle.base.specs.Count.{in-dec, out-absent}
-use Rattle.definitions.specs.World.{size, count, group, trust, up, fifo-length, next, held, marks, fifo, sender, mask, number, State}
-use Rattle.definitions.specs.Machine.{addressed, marked, ready, fifo-one, cascade}
+use Rattle.definitions.specs.World.{size, count, group, trust, up, fifo-length, next, held, marks, fifo, sender, mask, number, State, addressed}
+use Rattle.definitions.specs.Machine.{marked, ready, fifo-one, cascade}
 use Rattle.definitions.specs.History.{Event, Names, names}
 use Rattle.world.specs.Fuel.{cascade-quiet}
 use Rattle.effects.specs.Views.{Process, Ground, ground, Still, Place, place-of, place, still as still-view}

@@ -10,9 +10,9 @@ use lib.ListN.{getD}
 use borrow.Author.Tests.{lt-ltb, le-ltb}
 use Rattle.base.specs.Tests.{both}
 use Rattle.definitions.specs.General.{pick}
-use Rattle.definitions.specs.World.{Cell, State, count, addr, view}
+use Rattle.definitions.specs.World.{Cell, State, count, addr, view, is-process, has-group}
 use Rattle.world.specs.Layout.{Within}
-use Rattle.definitions.specs.Sound.{frame, process, present, word, fine}
+use Rattle.definitions.specs.Sound.{word, fine}
 use Rattle.ranges.specs.Ranges.{within-at}
 use Rattle.ranges.specs.Laws.{every-split}
 use Rattle.limits.specs.Limits.{exists-at, word-limit}
@@ -20,22 +20,21 @@ use Rattle.regions.specs.Runs.{fine-run, run-split, run-of}
 use Rattle.blocks.specs.Known.{Bounds}
 
 -- ---- what the places of the table count for
-exists-pair : (s : State) (i : ℕ) → i < 128 → exists-at s i
-    ≡ (present (frame s) (i / 16) && process (frame s) (i % 16))
+exists-pair : (s : State) (i : ℕ) → i < 128 → exists-at s i ≡ (has-group s (i / 16) && is-process s (i % 16))
 unfolding exists-at
 exists-pair s i l = rw (lt-ltb i 128 l)
 
-exists-group : (s : State) (i : ℕ) → i < 8 → exists-at s (128 + i) ≡ present (frame s) i
+exists-group : (s : State) (i : ℕ) → i < 8 → exists-at s (128 + i) ≡ has-group s i
 unfolding exists-at
 exists-group s i l =
     rw (le-ltb (128 + i) 128 (omega arith), lt-ltb (128 + i) 136 (omega arith))
-    (ap (present (frame s)) (let e : 128 + i - 128 ≡ i = omega arith in e))
+    (ap (has-group s) (let e : 128 + i - 128 ≡ i = omega arith in e))
 
-exists-process : (s : State) (i : ℕ) → i < 16 → exists-at s (136 + i) ≡ process (frame s) i
+exists-process : (s : State) (i : ℕ) → i < 16 → exists-at s (136 + i) ≡ is-process s i
 unfolding exists-at
 exists-process s i l =
     rw (le-ltb (136 + i) 128 (omega arith), le-ltb (136 + i) 136 (omega arith))
-    (ap (process (frame s)) (let e : 136 + i - 136 ≡ i = omega arith in e))
+    (ap (is-process s) (let e : 136 + i - 136 ≡ i = omega arith in e))
 
 -- a word at most its limit
 counted : (u e : Bool) (x k y : ℕ) → u ≡ e → y ≡ pick e k 0 → leb x y ≡ word u x (leb x k)
@@ -47,10 +46,10 @@ module _ (w t : List ℕ) (h : Bounds (view w) t) (b : Bool) (here : b ≡ true)
       → ((g q : ℕ) → g < 8 → q < 16 → Within (pair g q)) → ((g q : ℕ) → addr (pair g q) ≡ a + (g * 16 + q))
       → ((g : ℕ) → g < 8 → Within (one g)) → ((g : ℕ) → addr (one g) ≡ a + 128 + g)
       → ((g q : ℕ) → fine (view w) (pair g q)
-      ≡ word (b && present (frame (view w)) g && process (frame (view w)) q)
+      ≡ word (b && has-group (view w) g && is-process (view w) q)
       (view w (pair g q)) (leb (view w (pair g q)) (view w count)))
       → ((g : ℕ) → fine (view w) (one g)
-      ≡ word (b && present (frame (view w)) g) (view w (one g)) (leb (view w (one g)) (view w count)))
+      ≡ word (b && has-group (view w) g) (view w (one g)) (leb (view w (one g)) (view w count)))
       → within-at w a t 0 136 ≡ fine-run (view w) a 136
   unfolding within-at
   table-law a pair one wp ap′ wo ao fp fo =
@@ -58,22 +57,21 @@ module _ (w t : List ℕ) (h : Bounds (view w) t) (b : Bool) (here : b ≡ true)
       ∙ ap₂ both
       (run-of s a 128 (λ i. pair (i / 16) (i % 16)) (λ i. leb (getD w (a + i) 0) (getD t (0 + i) 0))
       (λ i l. wp (i / 16) (i % 16) (omega arith) (omega arith)) (λ i l. place i)
-      (λ i l. counted (b && present (frame s) (i / 16) && process (frame s) (i % 16))
-      (present (frame s) (i / 16) && process (frame s) (i % 16)) (getD w (a + i) 0) (s count) _
-      (ap (λ (x : Bool). x && present (frame s) (i / 16) && process (frame s) (i % 16)) here)
+      (λ i l. counted (b && has-group s (i / 16) && is-process s (i % 16))
+      (has-group s (i / 16) && is-process s (i % 16)) (getD w (a + i) 0) (s count) _
+      (ap (λ (x : Bool). x && has-group s (i / 16) && is-process s (i % 16)) here)
       (ap (λ (j : ℕ). getD t j 0) (let e : 0 + i ≡ i = omega arith in e) ∙ h .at i (omega arith)
       ∙ ap (λ (e : Bool). pick e (s count) 0) (exists-pair s i l))
-      ∙ ap (λ (x : ℕ). word (b && present (frame s) (i / 16) && process (frame s) (i % 16)) x
-      (leb x (s count)))
+      ∙ ap (λ (x : ℕ). word (b && has-group s (i / 16) && is-process s (i % 16)) x (leb x (s count)))
       (ap (λ (j : ℕ). getD w j 0) (sym (place i))) ∙ sym (fp (i / 16) (i % 16))))
       (run-of s (a + 128) 8 one (λ i. leb (getD w (a + (128 + i)) 0) (getD t (0 + (128 + i)) 0)) wo
       (λ i l. ao i)
-      (λ i l. counted (b && present (frame s) i) (present (frame s) i) (getD w (a + (128 + i)) 0) (s count) _
-      (ap (λ (x : Bool). x && present (frame s) i) here)
+      (λ i l. counted (b && has-group s i) (has-group s i) (getD w (a + (128 + i)) 0) (s count) _
+      (ap (λ (x : Bool). x && has-group s i) here)
       (ap (λ (j : ℕ). getD t j 0) (let e : 0 + (128 + i) ≡ 128 + i = omega arith in e)
       ∙ h .at (128 + i) (omega arith)
       ∙ ap (λ (e : Bool). pick e (s count) 0) (exists-group s i l))
-      ∙ ap (λ (x : ℕ). word (b && present (frame s) i) x (leb x (s count)))
+      ∙ ap (λ (x : ℕ). word (b && has-group s i) x (leb x (s count)))
       (ap (λ (j : ℕ). getD w j 0) (let z = ao i in let e : a + (128 + i) ≡ addr (one i) = omega arith in e))
       ∙ sym (fo i)))
       ∙ sym (run-split s a 128 8)
@@ -88,15 +86,14 @@ module _ (w t : List ℕ) (h : Bounds (view w) t) (b : Bool) (here : b ≡ true)
   pub row-law : (a : ℕ) (one : ℕ → Cell) → ((q : ℕ) → q < 16 → Within (one q))
       → ((q : ℕ) → addr (one q) ≡ a + q)
       → ((q : ℕ) → fine (view w) (one q)
-      ≡ word (b && process (frame (view w)) q) (view w (one q)) (leb (view w (one q)) (view w count)))
+      ≡ word (b && is-process (view w) q) (view w (one q)) (leb (view w (one q)) (view w count)))
       → within-at w a t 136 16 ≡ fine-run (view w) a 16
   unfolding within-at
   row-law a one wo ao fo =
       run-of (view w) a 16 one (λ i. leb (getD w (a + i) 0) (getD t (136 + i) 0)) wo (λ i l. ao i)
-      (λ i l. counted (b && process (frame (view w)) i) (process (frame (view w)) i) (getD w (a + i) 0)
-      (view w count) _
-      (ap (λ (x : Bool). x && process (frame (view w)) i) here)
+      (λ i l. counted (b && is-process (view w) i) (is-process (view w) i) (getD w (a + i) 0) (view w count) _
+      (ap (λ (x : Bool). x && is-process (view w) i) here)
       (h .at (136 + i) (omega arith)
       ∙ ap (λ (e : Bool). pick e (view w count) 0) (exists-process (view w) i l))
-      ∙ ap (λ (x : ℕ). word (b && process (frame (view w)) i) x (leb x (view w count)))
+      ∙ ap (λ (x : ℕ). word (b && is-process (view w) i) x (leb x (view w count)))
       (ap (λ (j : ℕ). getD w j 0) (sym (ao i))) ∙ sym (fo i))

@@ -6,8 +6,8 @@ use native.Mathlib.Omega.{arith}
 use lib.ListN.{length, getD}
 use borrow.Author.Tests.{lt-ltb, ltb-true}
 use Rattle.definitions.specs.General.{pick}
-use Rattle.definitions.specs.World.{State, size, count, fifo-length, causal-length, sender, view}
-use Rattle.definitions.specs.Sound.{frame, message, fit, fine}
+use Rattle.definitions.specs.World.{State, size, count, fifo-length, causal-length, sender, view, is-message}
+use Rattle.definitions.specs.Sound.{fit, fine}
 use Rattle.world.specs.SoundLaws.{word-in}
 use Rattle.heads.specs.Known.{Sized, Placed, Headed}
 use Rattle.limits.specs.Limits.{exists-at}
@@ -40,6 +40,6 @@ sender-low w n messages limits addressees h m k =
     let es = h .sized .size-is in
     let eh = h .sized .high in
     let z = ltb-true (view w (sender m)) (view w size)
-    (word-in (message (frame (view w)) m) (view w (sender m)) _ (h .headed .fine-senders m (omega arith))
+    (word-in (is-message (view w) m) (view w (sender m)) _ (h .headed .fine-senders m (omega arith))
     (lt-ltb m (view w count) (omega arith))) in
     omega arith

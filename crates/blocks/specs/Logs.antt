@@ -10,9 +10,9 @@ use lib.ListN.{getD, List·getD-eq-default}
 use borrow.Author.Tests.{lt-ltb, le-ltb, ltb-true, ltb-false, ne-eqb}
 use Rattle.base.specs.Tests.{both, pick-le}
 use Rattle.definitions.specs.General.{pick, every, absent, bit}
-use Rattle.definitions.specs.World.{Cell, State, size, count, fifo-length, causal-length, fifo, causal, addr, view}
+use Rattle.definitions.specs.World.{Cell, State, size, count, fifo-length, causal-length, fifo, causal, addr, view, is-process, is-message}
 use Rattle.world.specs.Layout.{Within}
-use Rattle.definitions.specs.Sound.{frame, process, message, addressee, word, item, fit, fine}
+use Rattle.definitions.specs.Sound.{addressee, word, item, fit, fine}
 use Rattle.ranges.specs.Ranges.{zeros-at, within-at}
 use Rattle.logtest.specs.Log.{log-at, low-at, Counts, Flags, item-ok, listed-at}
 use Rattle.logtest.specs.Laws.{log-test, counts-flags}
@@ -51,7 +51,7 @@ log-law w a n c test good l inside place is h =
 
 -- the messages that the FIFO log of p may have
 may-deliver : State → ℕ → ℕ → Bool
-may-deliver s p m = message (frame s) m && addressee (frame s) m p
+may-deliver s p m = is-message s m && addressee s m p
 
 deliverable-flags : (s : State) (to t : List ℕ) (p : ℕ) → s count ≤ 64 → Addressees s to → Deliverable to p t
     → Flags t (may-deliver s p)
@@ -67,8 +67,7 @@ deliverable-flags s to t p few a d = record {
     one true = refl
     one false = refl
 
-    go : (m : ℕ) (b : Bool) → ltb m 64 ≡ b → eqb (getD t m 0) 1
-        ≡ (message (frame s) m && addressee (frame s) m p)
+    go : (m : ℕ) (b : Bool) → ltb m 64 ≡ b → eqb (getD t m 0) 1 ≡ (is-message s m && addressee s m p)
     go m true q =
         let l = ltb-true m 64 q in
         ap (λ (x : ℕ). eqb x 1) (d .at m l) ∙ one (bit (getD to m 0) p) ∙ ap (λ (x : ℕ). bit x p) (a .at m l)
@@ -77,11 +76,11 @@ deliverable-flags s to t p few a d = record {
         let l = ltb-false m 64 q in
         let z = List·getD-eq-default t 0 {n = m} (let k = d .long in omega arith) in
         ne-eqb (getD t m 0) 1 (λ e. omega arith)
-        ∙ sym (ap (λ (b : Bool). b && addressee (frame s) m p) (le-ltb m (s count) (omega arith)))
+        ∙ sym (ap (λ (b : Bool). b && addressee s m p) (le-ltb m (s count) (omega arith)))
 
 module _ (w to : List ℕ) (p : ℕ) (low : p < 16) (here : p < view w size) (few : view w count ≤ 64)
     (a : Addressees (view w) to) where
-  is-here : process (frame (view w)) p ≡ true
+  is-here : is-process (view w) p ≡ true
   is-here = lt-ltb p (view w size) here
 
   fifo-law : (f : ℕ) (good : Bool) → f ≡ view w (fifo-length p) → f ≤ 64

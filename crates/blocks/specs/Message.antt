@@ -11,8 +11,8 @@ use Rattle.base.specs.Tests.{both}
 use Rattle.definitions.specs.General.{every, bit, with, only}
 use Rattle.base.specs.Search.{every-true, every-intro}
 use Rattle.base.specs.Bits.{only-none}
-use Rattle.definitions.specs.World.{State, count, sender, mask, stamp, number, flight, order, view}
-use Rattle.definitions.specs.Sound.{frame, message, addressee, sends, word, fit, fine}
+use Rattle.definitions.specs.World.{State, count, sender, mask, stamp, number, flight, order, view, is-message}
+use Rattle.definitions.specs.Sound.{addressee, sends, word, fit, fine}
 use Rattle.ranges.specs.Ranges.{zeros-at, within-at}
 use Rattle.limits.specs.Addressees.{addressees-of}
 use Rattle.regions.specs.Runs.{fine-run, run-of, run-one, run-join, run-cut}
@@ -30,7 +30,7 @@ module _ (w : List ℕ) (m n messages : ℕ) (limits addressees : List ℕ)
   there : m < view w count
   there = let e = h .sized .count-is in omega arith
 
-  is-there : message (frame (view w)) m ≡ true
+  is-there : is-message (view w) m ≡ true
   is-there = lt-ltb m (view w count) there
 
   pub low : m < 64
@@ -39,13 +39,13 @@ module _ (w : List ℕ) (m n messages : ℕ) (limits addressees : List ℕ)
   stamps-law : within-at w (6867 + m * 187 + 2) limits 0 136 ≡ fine-run (view w) (6867 + m * 187 + 2) 136
   unfolding fine fit
   stamps-law =
-      table-law w limits (h .bounds) (message (frame (view w)) m) is-there (6867 + m * 187 + 2) (stamp m)
+      table-law w limits (h .bounds) (is-message (view w) m) is-there (6867 + m * 187 + 2) (stamp m)
       (number m)
       (λ g q a b. (low, a, b)) (λ g q. refl) (λ g a. (low, a)) (λ g. omega arith) (λ g q. refl) (λ g. refl)
 
   -- the letters of kind k, at the place a
   kind-law : (k a origins : ℕ) → k < 3 → a ≡ 6867 + m * 187 + 138 + k * 16
-      → ((q : ℕ) → q < 16 → bit origins q ≡ sends (frame (view w)) m k q)
+      → ((q : ℕ) → q < 16 → bit origins q ≡ sends (view w) m k q)
       → letters-at w a origins (addressees-of (view w) m) ≡ fine-run (view w) a 16
   kind-law k a origins hk e from =
       ap (λ (x : ℕ). letters-at w x origins (addressees-of (view w) m)) e
@@ -96,15 +96,14 @@ module _ (w : List ℕ) (m n messages : ℕ) (limits addressees : List ℕ)
       (λ i l. (low, omega arith, omega arith)) (λ i l. omega arith)
       (λ i l.
       let x : 6867 + m * 187 + 138 + (i / 16 * 16 + i % 16) ≡ 6867 + m * 187 + 138 + i = omega arith in
-      sym (silent (message (frame (view w)) m && sends (frame (view w)) m (i / 16) (i % 16))
+      sym (silent (is-message (view w) m && sends (view w) m (i / 16) (i % 16))
       (view w (flight m (i / 16) (i % 16)))
       (ap (λ (j : ℕ). getD w j 0) x
       ∙ eqb-true _ 0 (every-true 48 (λ j. eqb (getD w (6867 + m * 187 + 138 + j) 0) 0) e i l))))
     where
-      silent : (b : Bool) (x : ℕ) → x ≡ 0 → word b x (only 16 x (addressee (frame (view w)) m)) ≡ true
+      silent : (b : Bool) (x : ℕ) → x ≡ 0 → word b x (only 16 x (addressee (view w) m)) ≡ true
       silent true x q =
-          ap (λ (y : ℕ). only 16 y (addressee (frame (view w)) m)) q
-          ∙ only-none 16 (addressee (frame (view w)) m)
+          ap (λ (y : ℕ). only 16 y (addressee (view w) m)) q ∙ only-none 16 (addressee (view w) m)
       silent false x q = eq-eqb x 0 q
 
   pub message-law :

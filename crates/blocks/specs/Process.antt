@@ -2,14 +2,14 @@
 use mathlib.Core.Path.{_≡_, refl, sym, ap, ap₂, _∙_}
 use mathlib.Core.Bool.{Bool, true, false, _&&_}
 use mathlib.Core.List.{List}
-use Prim.Native.Nat.{ℕ, _+_, _-_, _*_, _/_, _^_, _≤_, _<_}
+use Prim.Native.Nat.{ℕ, _+_, _*_, _/_, _^_, _≤_, _<_}
 use native.Mathlib.Omega.{arith}
 use lib.Dec.{ltb, leb, eqb}
 use borrow.Author.Tests.{lt-ltb, ltb-true}
 use Rattle.base.specs.Tests.{both, both-l, both-r, both-i, same}
 use Rattle.definitions.specs.General.{every, absent, only}
-use Rattle.definitions.specs.World.{State, size, count, group, trust, counter, sequence, delivered, up, fifo-length, causal-length, fifo, view}
-use Rattle.definitions.specs.Sound.{frame, process, message, addressee, word, item, fit, fine}
+use Rattle.definitions.specs.World.{State, size, count, group, trust, counter, sequence, delivered, up, fifo-length, causal-length, fifo, view, is-process, is-message}
+use Rattle.definitions.specs.Sound.{addressee, word, item, fit, fine}
 use Rattle.world.specs.SoundLaws.{word-in, word-leb}
 use Rattle.ranges.specs.Ranges.{within-at}
 use Rattle.ranges.specs.Sets.{shift-only}
@@ -67,7 +67,7 @@ processes-fine s n = every n (λ p. fine-run s (3 + p * 429) 429)
 
 module _ (w : List ℕ) (p n messages : ℕ) (limits to : List ℕ) (h : Ready w n messages limits to) (l : p < n)
   where
-    is-here : process (frame (view w)) p ≡ true
+    is-here : is-process (view w) p ≡ true
     is-here = lt-ltb p (view w size) (let e = h .sized .size-is in omega arith)
 
     pub low : p < 16
@@ -80,20 +80,20 @@ module _ (w : List ℕ) (p n messages : ℕ) (limits to : List ℕ) (h : Ready w
       here = let e = h .sized .size-is in omega arith;
     }
 
-    used : (x : ℕ) (t : Bool) → word (process (frame (view w)) p) x t ≡ t
+    used : (x : ℕ) (t : Bool) → word (is-process (view w) p) x t ≡ t
     used x t = ap (λ (b : Bool). word b x t) is-here
 
     counters-law : within-at w (3 + p * 429 + 2) limits 0 136 ≡ fine-run (view w) (3 + p * 429 + 2) 136
     unfolding fine fit
     counters-law =
-        table-law w limits (h .bounds) (process (frame (view w)) p) is-here (3 + p * 429 + 2) (counter p)
+        table-law w limits (h .bounds) (is-process (view w) p) is-here (3 + p * 429 + 2) (counter p)
         (sequence p)
         (λ g q a b. (low, a, b)) (λ g q. refl) (λ g a. (low, a)) (λ g. omega arith) (λ g q. refl) (λ g. refl)
 
     delivered-law : within-at w (3 + p * 429 + 154) limits 136 16 ≡ fine-run (view w) (3 + p * 429 + 154) 16
     unfolding fine fit
     delivered-law =
-        row-law w limits (h .bounds) (process (frame (view w)) p) is-here (3 + p * 429 + 154) (delivered p)
+        row-law w limits (h .bounds) (is-process (view w) p) is-here (3 + p * 429 + 154) (delivered p)
         (λ q a. (low, a)) (λ q. refl) (λ q. refl)
 
     trust-law : (x : ℕ) → x ≡ view w (trust p) → x < 2 ^ 16 → eqb (x / 2 ^ n) 0 ≡ fine (view w) (trust p)
@@ -101,7 +101,7 @@ module _ (w : List ℕ) (p n messages : ℕ) (limits to : List ℕ) (h : Ready w
     trust-law x e k =
         shift-only 16 n x k (h .sized .high)
         ∙ ap₂ (λ (y j : ℕ). only 16 y (λ i. ltb i j)) e (h .sized .size-is)
-        ∙ sym (used (view w (trust p)) (only 16 (view w (trust p)) (process (frame (view w)))))
+        ∙ sym (used (view w (trust p)) (only 16 (view w (trust p)) (is-process (view w))))
 
     up-law : leb (view w (up p)) 1 ≡ fine (view w) (up p)
     unfolding fine fit
@@ -139,9 +139,9 @@ module _ (w : List ℕ) (p n messages : ℕ) (limits to : List ℕ) (h : Ready w
     lengths e =
         let x = front-parts (view w) p e in
         let a : view w (fifo-length p) ≤ view w count =
-        word-leb (process (frame (view w)) p) (view w (fifo-length p)) (view w count) (x .fifo-part) in
+        word-leb (is-process (view w) p) (view w (fifo-length p)) (view w count) (x .fifo-part) in
         let b : view w (causal-length p) ≤ view w (fifo-length p) =
-        word-leb (process (frame (view w)) p) (view w (causal-length p)) (view w (fifo-length p))
+        word-leb (is-process (view w) p) (view w (causal-length p)) (view w (fifo-length p))
         (x .causal-part) in
         let k = h .sized .count-is in
         let m = h .sized .few in
@@ -157,13 +157,11 @@ module _ (w : List ℕ) (p n messages : ℕ) (limits to : List ℕ) (h : Ready w
         (both-l (fine-run (view w) (3 + p * 429 + 301) 64) (fine-run (view w) (3 + p * 429 + 365) 64) e)
         (fifo p i) (low, r)
         (omega arith) (omega arith) in
-        let a = word-in (ltb i (view w (fifo-length p))) x _
-        (word-in (process (frame (view w)) p) x _ f is-here)
+        let a = word-in (ltb i (view w (fifo-length p))) x _ (word-in (is-process (view w) p) x _ f is-here)
         (lt-ltb i (view w (fifo-length p)) k) in
         ltb-true x (view w count)
-        (both-l (message (frame (view w)) x) (addressee (frame (view w)) x p)
-        (both-l (message (frame (view w)) x && addressee (frame (view w)) x p)
-        (absent i x (λ j. view w (fifo p j))) a))
+        (both-l (is-message (view w) x) (addressee (view w) x p)
+        (both-l (is-message (view w) x && addressee (view w) x p) (absent i x (λ j. view w (fifo p j))) a))
 
     pub countable : (f : ℕ) → f ≡ view w (fifo-length p) → Lengths (view w) p → logs-fine (view w) p ≡ true
         → Countable w (3 + p * 429 + 301) f messages

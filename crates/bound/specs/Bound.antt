@@ -8,15 +8,14 @@ use mathlib.Core.Logic.{_⊎_, inl, inr}
 use Prim.Native.Nat.{ℕ, zero, suc, _+_, _*_, _≤_, _<_}
 use native.Mathlib.Omega.{arith}
 use native.Mathlib.Nat.{mul-le-mul}
-use lib.Dec.{ltb, eqb}
+use lib.Dec.{eqb}
 use borrow.Author.Tests.{eqb-true, ne-eqb, lt-ltb}
 use Rattle.base.specs.Tests.{bool-cases, clash, pick-le, both, both-l, both-r, both-i}
 use Rattle.definitions.specs.General.{pick, tally, bit}
 use Rattle.base.specs.Count.{tally-le, tally-zero, tally-cong}
-use Rattle.definitions.specs.World.{size, count, sender, flight, State}
+use Rattle.definitions.specs.World.{size, count, sender, flight, State, is-process, addressed}
 use Rattle.world.specs.SoundLaws.{Sound, size-high, count-high, letter-facts}
-use Rattle.definitions.specs.Sound.{frame, sends}
-use Rattle.definitions.specs.Machine.{addressed}
+use Rattle.definitions.specs.Sound.{sends}
 use Rattle.effects.specs.Arrival.{Fly}
 use Rattle.effects.specs.Spent.{Spent}
 use Rattle.bound.specs.Potential.{sum, sum-mono, addressee-count, sent, owed, one, cost, from-one, of-kind, of-message, potential, one-no, sends-later, sent-if}
@@ -63,7 +62,7 @@ one-most b = pick-le b (omega arith) (omega arith)
 module _ (s : State) (h : Sound s) (m : ℕ) (hm : m < s count) where
   -- the letter of kind k from q to u is one that may be
   abbrev may : ℕ → ℕ → ℕ → Bool
-  may k q u = both (sends (frame s) m k q) (addressed s m u)
+  may k q u = both (sends s m k q) (addressed s m u)
 
   -- any other costs nothing
   no-cost : (k q u : ℕ) → k < 3 → q < s size → u < s size → may k q u ≡ false → cost s k m q u ≡ 0
@@ -83,16 +82,16 @@ module _ (s : State) (h : Sound s) (m : ℕ) (hm : m < s count) where
       flies e =
           let d = letter-facts s h k m q u hk (omega (arith, count-high s h)) (omega (arith, size-high s h))
           (omega (arith, size-high s h)) e in
-          both-i (sends (frame s) m k q) (addressed s m u) (d .from)
-          (both-r (ltb u (s size)) (addressed s m u) (d .to))
+          both-i (sends s m k q) (addressed s m u) (d .from)
+          (both-r (is-process s u) (addressed s m u) (d .to))
 
       owes : (j : ℕ) → j < 3 → owed s j m q u ≡ true → may j q u ≡ true
       owes zero l e = clash {b = false} e refl
       owes (suc j) l e =
           let d = both-r (not (sent s (suc j) m q)) (both (addressed s m q) (addressed s m u)) e in
-          both-i (sends (frame s) m (suc j) q) (addressed s m u)
+          both-i (sends s m (suc j) q) (addressed s m u)
           (sends-later s m j q
-          ∙ both-i (ltb q (s size)) (addressed s m q) (lt-ltb q (s size) hq)
+          ∙ both-i (is-process s q) (addressed s m q) (lt-ltb q (s size) hq)
           (both-l (addressed s m q) (addressed s m u) d)) (both-r (addressed s m q) (addressed s m u) d)
 
   -- at most c each: so many of a kind
@@ -100,12 +99,12 @@ module _ (s : State) (h : Sound s) (m : ℕ) (hm : m < s count) where
       (few : (q u : ℕ) → q < s size → u < s size → cost s k m q u ≤ c) where
     -- from one origin
     from-few : (q : ℕ) → q < s size
-        → from-one (s size) s m k q ≤ pick (sends (frame s) m k q) (c * addressee-count s m) 0
+        → from-one (s size) s m k q ≤ pick (sends s m k q) (c * addressee-count s m) 0
     from-few q hq =
         omega (
           arith,
           sum-mono (s size) (cost s k m q) (λ u. pick (may k q u) c 0) (λ u hu. each u hu (may k q u) refl),
-          sum-both (s size) c (sends (frame s) m k q) (addressed s m),
+          sum-both (s size) c (sends s m k q) (addressed s m),
         )
       where
         each : (u : ℕ) → u < s size → (b : Bool) → may k q u ≡ b → cost s k m q u ≤ pick b c 0
@@ -113,13 +112,13 @@ module _ (s : State) (h : Sound s) (m : ℕ) (hm : m < s count) where
         each u hu false e = omega (arith, no-cost k q u hk hq hu e)
 
     -- from all of them
-    kind-few : of-kind (s size) s m k ≤ c * addressee-count s m * tally (s size) (sends (frame s) m k)
+    kind-few : of-kind (s size) s m k ≤ c * addressee-count s m * tally (s size) (sends s m k)
     kind-few =
         omega (
           arith,
           sum-mono (s size) (from-one (s size) s m k)
-              (λ q. pick (sends (frame s) m k q) (c * addressee-count s m) 0) from-few,
-          sum-passing (s size) (c * addressee-count s m) (sends (frame s) m k),
+              (λ q. pick (sends s m k q) (c * addressee-count s m) 0) from-few,
+          sum-passing (s size) (c * addressee-count s m) (sends s m k),
         )
 
   -- first letters: A at most
@@ -141,7 +140,7 @@ module _ (s : State) (h : Sound s) (m : ℕ) (hm : m < s count) where
         arith,
         kind-few (suc j) c hj few,
         ap (λ (n : ℕ). c * addressee-count s m * n)
-            (tally-cong (s size) (sends (frame s) m (suc j)) (addressed s m)
+            (tally-cong (s size) (sends s m (suc j)) (addressed s m)
             (λ q l. sends-later s m j q ∙ rw (lt-ltb q (s size) l))),
       )
 

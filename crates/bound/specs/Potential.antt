@@ -15,11 +15,11 @@ use borrow.Author.Tests.{eqb-true, eq-eqb, ne-eqb, leb-true, le-leb, not-true}
 use Rattle.base.specs.Tests.{bool-cases, clash, pick-no, both, both-l, both-r, both-i}
 use Rattle.definitions.specs.General.{pick, tally, bit, without}
 use Rattle.base.specs.Bits.{without-hit}
-use Rattle.definitions.specs.World.{size, count, group, next, held, sender, number, flight, State, put}
+use Rattle.definitions.specs.World.{size, count, group, next, held, sender, number, flight, State, put, addressed}
 use Rattle.world.specs.Layout.{put-same}
 use Rattle.world.specs.SoundLaws.{Sound, size-high, count-high, letter-facts}
-use Rattle.definitions.specs.Sound.{frame, sends}
-use Rattle.definitions.specs.Machine.{addressed, leave}
+use Rattle.definitions.specs.Sound.{addressee, sends}
+use Rattle.definitions.specs.Machine.{leave}
 use Rattle.effects.specs.Views.{Ground, ground}
 use Rattle.effects.specs.Arrival.{Fly}
 use Rattle.effects.specs.Spent.{SentBy, Spent, Once, spent-on}
@@ -85,8 +85,7 @@ unfoldable pub potential : State → ℕ
 potential s = sum (s count) (of-message (s size) s)
 
 -- a relay or an OK comes from an addressee
-pub sends-later : (s : State) (m j q : ℕ)
-    → sends (frame s) m (suc j) q ≡ both (ltb q (s size)) (addressed s m q)
+pub sends-later : (s : State) (m j q : ℕ) → sends s m (suc j) q ≡ addressee s m q
 unfolding sends
 sends-later s m j q = pick-no _ _ (ne-eqb (suc j) 0 (omega arith))
 

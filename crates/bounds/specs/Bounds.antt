@@ -8,21 +8,24 @@ use native.Mathlib.Omega.{arith}
 use lib.ListN.{length, set}
 use Rattle.definitions.specs.World.{Cell, size, count, group, next, fifo-length, causal-length, fifo, sender, addr, State, put, encode, view}
 use Rattle.world.specs.Layout.{Within, get-encode, changes-put, changes-own}
-use Rattle.definitions.specs.Sound.{Frame, frame}
 use Rattle.world.specs.SoundLaws.{Sound, size-high, count-high, group-high, sender-high, fifo-length-high, causal-length-high, fifo-high, next-high}
 
-pub record Limits (f : Frame) (next : ℕ → ℕ → ℕ) : Type 0 where
-  pub sizes : f .n ≤ 16
-  pub counts : f .messages ≤ 64
-  pub groups : (p : ℕ) → p < 16 → f .groups p < 8
-  pub senders : (m : ℕ) → m < 64 → f .senders m < 16
-  pub fifo-lengths : (p : ℕ) → p < 16 → f .fifo-lengths p ≤ f .messages
-  pub causal-lengths : (p : ℕ) → p < 16 → f .causal-lengths p ≤ f .fifo-lengths p
-  pub logged : (p i : ℕ) → p < 16 → i < 64 → f .fifos p i < 64
-  pub nexts : (p q : ℕ) → p < 16 → q < 16 → next p q ≤ f .fifo-lengths p + 1
+-- What they look at, and the bounds of it.
+pub record Limits (n messages : ℕ) (group sender fifo-length causal-length : ℕ → ℕ) (fifo next : ℕ → ℕ → ℕ)
+    : Type 0 where
+  pub sizes : n ≤ 16
+  pub counts : messages ≤ 64
+  pub groups : (p : ℕ) → p < 16 → group p < 8
+  pub senders : (m : ℕ) → m < 64 → sender m < 16
+  pub fifo-lengths : (p : ℕ) → p < 16 → fifo-length p ≤ messages
+  pub causal-lengths : (p : ℕ) → p < 16 → causal-length p ≤ fifo-length p
+  pub logged : (p i : ℕ) → p < 16 → i < 64 → fifo p i < 64
+  pub nexts : (p q : ℕ) → p < 16 → q < 16 → next p q ≤ fifo-length p + 1
 
 abbrev pub Bounds : State → Type 0
-Bounds s = Limits (frame s) (λ p q. s (next p q))
+Bounds s =
+    Limits (s size) (s count) (λ p. s (group p)) (λ m. s (sender m)) (λ p. s (fifo-length p))
+    (λ p. s (causal-length p)) (λ p i. s (fifo p i)) (λ p q. s (next p q))
 
 -- ---- they hold of a state exactly if they hold of its words
 bounds-on : (s t : State) → ((c : Cell) → Within c → s c ≡ t c) → Bounds s → Bounds t

@@ -1,17 +1,20 @@
 -- What each case of an answer means: for every answer enum of the code, document 01's number and values
 -- ("Where an answer is an enum, there is a definition that gives this paper's number and values for each of
--- its cases"). It rests on the replies of Words. Assumes nothing.
+-- its cases"). It rests on the replies of General. Assumes nothing.
 use Prim.Native.Nat.{ℕ}
+use Rattle.definitions.specs.General.{Reply, gives, refuses}
 use Rattle.definitions.specs.Settle.{Ending, done, stopped}
-use Rattle.definitions.specs.Words.{Reply, gives, refuses}
+use Rattle.definitions.specs.Replay.{Counts}
 use Rattle.definitions.specs.declared.Refusal.{Refusal}
-use Rattle.definitions.specs.declared.Refusal.the-variants.{WorldLength, WorldUnsound, BadSetup, Malformed, NoProcess, BadMask, NoMessage, BadTrust, Down, Full, NotInFlight, BothUp}
+use Rattle.definitions.specs.declared.Refusal.the-variants.{WorldLength, WorldUnsound, BadSetup, Malformed, NoProcess, BadMask, NoMessage, BadTrust, Down, Full, NotInFlight, BothUp, JournalLength, WrongCheck, WrongForm, RecordsLength, OutputLength}
 use Rattle.definitions.specs.declared.Outcome.{Outcome}
 use Rattle.definitions.specs.declared.Outcome.the-variants as outcome
+use Rattle.definitions.specs.declared.Amount.{Amount}
+use Rattle.definitions.specs.declared.Amount.the-variants as amount
 use Rattle.definitions.specs.declared.Settling.{Settling}
 use Rattle.definitions.specs.declared.Settling.the-variants as settling
-use Rattle.definitions.specs.declared.LogLength.{LogLength}
-use Rattle.definitions.specs.declared.LogLength.the-variants as log-length
+use Rattle.definitions.specs.declared.Replaying.{Replaying}
+use Rattle.definitions.specs.declared.Replaying.the-variants as replaying
 
 -- The refusals by number.
 abbrev pub refusal-number : Refusal → ℕ
@@ -27,11 +30,21 @@ refusal-number Down = 9
 refusal-number Full = 10
 refusal-number NotInFlight = 11
 refusal-number BothUp = 12
+refusal-number JournalLength = 13
+refusal-number WrongCheck = 14
+refusal-number WrongForm = 15
+refusal-number RecordsLength = 16
+refusal-number OutputLength = 17
 
--- Making a world, and a step: 0 where it is taken, else the refusal's number.
+-- Making a world, a step, writing and reading a journal: 0 where it is done, else the refusal's number.
 abbrev pub outcome-number : Outcome → ℕ
 outcome-number outcome.Taken = 0
 outcome-number (outcome.Refused r) = refusal-number r
+
+-- How many, or the refusal.
+abbrev pub amount-reply : Amount → Reply ℕ
+amount-reply (amount.Is n) = gives n
+amount-reply (amount.Refused r) = refuses (refusal-number r)
 
 -- Settle: the number of arrivals with done or stopped, or the refusal.
 abbrev pub settling-reply : Settling → Reply Ending
@@ -39,7 +52,17 @@ settling-reply (settling.Done n) = gives (done n)
 settling-reply (settling.Stopped n) = gives (stopped n)
 settling-reply (settling.Refused r) = refuses (refusal-number r)
 
--- The length of a log, or the refusal.
-abbrev pub log-length-reply : LogLength → Reply ℕ
-log-length-reply (log-length.Items n) = gives n
-log-length-reply (log-length.Refused r) = refuses (refusal-number r)
+-- Replay: the number of records after the setup and how many were refused, or the refusal.
+abbrev pub replaying-reply : Replaying → Reply Counts
+replaying-reply (replaying.Done n k) = gives (record { steps = n; refused = k })
+replaying-reply (replaying.Refused r) = refuses (refusal-number r)
+
+-- ---- the numbers that an exported function gives, read off a value
+-- Of how settle ended: the number of arrivals, and 1 for done or 0 for stopped.
+abbrev pub arrivals-in : Ending → ℕ
+arrivals-in (done n) = n
+arrivals-in (stopped n) = n
+
+abbrev pub done-in : Ending → ℕ
+done-in (done n) = 1
+done-in (stopped n) = 0

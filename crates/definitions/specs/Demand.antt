@@ -1,23 +1,32 @@
--- Demand 3 as one proposition about what the calls on one lent world give: the items are lists of bytes or
--- budgets, the logs are those that the log call returns, done is settle's answer. Document 01, section
--- "Precedence, trust rule, settle". It rests on Words and History. Assumes nothing.
+-- The statements of the demands that the contracts of the calls do not say by themselves. Of demand 2: the round
+-- trip of journals. Demand 3, as one proposition about what the calls on one lent world give: the items are
+-- lists of bytes or budgets, the logs are those that the log call returns, done is settle's answer (document
+-- 01, section "Precedence, trust rule, settle"). It rests on Words, History and Journal. Assumes nothing.
 use mathlib.Core.Path.{_≡_}
 use mathlib.Core.Bool.{true, false}
 use mathlib.Core.List.{List}
 use mathlib.Core.Logic.{_≢_, _↔_}
 use Prim.Native.Nat.{ℕ, _≤_, _<_}
 use lib.ListN.{length, getD}
-use Rattle.definitions.specs.General.{In}
-use Rattle.definitions.specs.World.{size, count, up, sender, view}
-use Rattle.definitions.specs.Machine.{addressed}
+use Rattle.definitions.specs.General.{Reply, gives, Listed, Bytes}
+use Rattle.definitions.specs.World.{size, count, up, sender, view, addressed}
 use Rattle.definitions.specs.Settle.{Ending, done, stopped}
-use Rattle.definitions.specs.Words.{Reply, gives, making-refusal, settled-words, settle-reply, log-words, on-words, started-words}
+use Rattle.definitions.specs.Words.{making-refusal, settled-words, settle-reply, log-words, on-words, started-words}
 use Rattle.definitions.specs.History.{Before, Run, Item, run, TrustRule}
+use Rattle.definitions.specs.Journal.{write-refusal, written, read-refusal, read-out}
 
--- m stands in the list; the list has no number twice.
-abbrev pub Listed : List ℕ → ℕ → Type 0
-Listed xs m = In (length xs) (λ i. getD xs i 0) m
+-- ---- demand 2, of journals: of the bytes that the two calls leave, in outputs as long as is needed
+pub record RoundTrip : Type 0 where
+  -- "A journal written and read gives back its records";
+  pub records-back : (rs out back : List ℕ) → write-refusal (length rs) (length out) ≡ 0
+      → length back ≡ length rs
+      → (read-refusal (written rs out) (length back) ≡ 0) × (read-out (written rs out) back ≡ rs)
+  -- "an accepted journal read and written gives back its bytes".
+  pub journal-back : (j back out : List ℕ) → Bytes j → read-refusal j (length back) ≡ 0 → length out ≡ length j
+      → (write-refusal (length (read-out j back)) (length out) ≡ 0) × (written (read-out j back) out ≡ j)
 
+-- ---- demand 3
+-- The list has no number twice.
 abbrev pub Distinct : List ℕ → Type 0
 Distinct xs = (i j : ℕ) → i < j → j < length xs → getD xs i 0 ≢ getD xs j 0
 
@@ -63,8 +72,8 @@ pub record Agreed (w : List ℕ) : Type 0 where
 
 -- An answer of settle that names at most n arrivals.
 pub data AtMost (n : ℕ) : Reply Ending → Type 0 where
-  done-in : (i : ℕ) → i ≤ n → AtMost n (gives (done i))
-  stopped-in : (i : ℕ) → i ≤ n → AtMost n (gives (stopped i))
+  done-within : (i : ℕ) → i ≤ n → AtMost n (gives (done i))
+  stopped-within : (i : ℕ) → i ≤ n → AtMost n (gives (stopped i))
 
 -- An answer of settle that says done.
 pub data SaysDone : Reply Ending → Type 0 where

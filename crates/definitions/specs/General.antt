@@ -1,5 +1,5 @@
 -- The general words that the definitions are written in: choice, refusals by number, tests of the numbers below
--- n, a loop, lists given by a function, masks, bytes. They rest on the kit's library, as all of this crate.
+-- n, a loop, lists, masks, bytes. They rest on the kit's library, as all of this crate.
 -- Assumes nothing.
 use mathlib.Core.Path.{_≡_}
 use mathlib.Core.Bool.{Bool, true, false, not, _&&_, _||_}
@@ -21,6 +21,28 @@ needs n ok rest = pick ok rest n
 -- The first refusal, and where there is none the second.
 abbrev pub or-else : ℕ → ℕ → ℕ
 or-else first second = pick (eqb first 0) second first
+
+-- What a call leaves in words or bytes that it was lent: these new ones where the refusal is 0, else what was there.
+abbrev pub unless-refused : ℕ → List ℕ → List ℕ → List ℕ
+unless-refused n new before = pick (eqb n 0) new before
+
+-- What a call that gives a value answers: the value, or the number of a refusal. "A refusal returns its number
+-- only."
+pub data Reply (A : Type 0) : Type 0 where
+  gives : A → Reply A
+  refuses : ℕ → Reply A
+
+abbrev pub reply : {A : Type 0} → ℕ → A → Reply A
+reply n a = pick (eqb n 0) (gives a) (refuses n)
+
+-- Of a reply: the refusal, 0 for none; and a number of the value, or on a refusal what stood there before.
+abbrev pub refusal-in : {A : Type 0} → Reply A → ℕ
+refusal-in (gives a) = 0
+refusal-in (refuses n) = n
+
+abbrev pub value-in : {A : Type 0} → (A → ℕ) → Reply A → ℕ → ℕ
+value-in f (gives a) before = f a
+value-in f (refuses n) before = before
 
 -- ---- tests of the numbers 0, .., n - 1
 -- All pass.
@@ -51,16 +73,20 @@ module _ {S : Type 0} (bound : S → ℕ) (test : S → ℕ → Bool) (act : S �
   loop zero s = s
   loop (suc k) s = elim (ltb (chosen s) (bound s)) [ true ↦ loop k (act s (chosen s)) | false ↦ s ]
 
--- ---- lists given by a function: f 0, f 1, .., f (n - 1)
--- m is one of them.
+-- ---- lists
+-- m is one of f 0, f 1, .., f (n - 1).
 pub data In (n : ℕ) (f : ℕ → ℕ) (m : ℕ) : Type 0 where
   in-at : (i : ℕ) → i < n → f i ≡ m → In n f m
 
--- m is none of them, as a test.
+-- It is none of them, as a test.
 unfoldable pub absent : ℕ → ℕ → (ℕ → ℕ) → Bool
 absent n m f = every n (λ i. not (eqb (f i) m))
 
--- The list itself; and n of them from f i on.
+-- m stands in the list.
+abbrev pub Listed : List ℕ → ℕ → Type 0
+Listed xs m = In (length xs) (λ i. getD xs i 0) m
+
+-- The list of n items from f i on; from f 0 on.
 unfoldable pub tab-from : {A : Type 0} → ℕ → ℕ → (ℕ → A) → List A
 tab-from i zero f = []
 tab-from i (suc n) f = let h = f i in let t = tab-from (suc i) n f in h ∷ t
@@ -90,6 +116,10 @@ unfoldable pub only : ℕ → ℕ → (ℕ → Bool) → Bool
 only n m f = every n (λ i. not (bit m i) || f i)
 
 -- ---- bytes
+-- Every item is a byte.
+abbrev pub Bytes : List ℕ → Type 0
+Bytes s = (i : ℕ) → getD s i 0 < 256
+
 -- Byte i.
 abbrev pub byte : List ℕ → ℕ → ℕ
 byte bytes i = getD bytes i 0

@@ -4,8 +4,8 @@
 use mathlib.Core.Bool.{Bool, not, _&&_, _||_}
 use Prim.Native.Nat.{ℕ, zero, suc, _+_, _-_, max}
 use lib.Dec.{leb, eqb}
-use Rattle.definitions.specs.General.{pick, every, absent, loop, bit, with, without, mask-of}
-use Rattle.definitions.specs.World.{size, count, rule, group, trust, counter, sequence, next, delivered, up, fifo-length, causal-length, held, marks, fifo, causal, sender, mask, stamp, number, flight, order, unused, State, put}
+use Rattle.definitions.specs.General.{pick, every, loop, bit, with, without, mask-of}
+use Rattle.definitions.specs.World.{size, count, rule, group, trust, counter, sequence, next, delivered, up, fifo-length, causal-length, held, marks, fifo, causal, sender, mask, stamp, number, flight, order, unused, State, put, addressed, outside-fifo, outside-causal}
 
 -- ---- the tables of a state: C and b of the processes, and C and s on the messages
 pub record Tables : Type 0 where
@@ -41,10 +41,6 @@ with-tables s t (order m) = s (order m)
 with-tables s t (unused i) = s (unused i)
 
 -- ---- addressees
--- "Its addressees are all processes of those groups": q is one of m's.
-abbrev pub addressed : State → ℕ → ℕ → Bool
-addressed s m q = bit (s (mask m)) (s (group q))
-
 -- The addressees of m, as a mask.
 abbrev pub addressees : State → ℕ → ℕ
 addressees s m = mask-of (s size) (addressed s m)
@@ -53,13 +49,6 @@ addressees s m = mask-of (s size) (addressed s m)
 -- m is the next message of its sender to the group of p: "s[group of p] = next[sender]".
 abbrev pub in-turn : State → ℕ → ℕ → Bool
 in-turn s p m = eqb (s (number m (s (group p)))) (s (next p (s (sender m))))
-
--- m is outside the FIFO log of p, and outside its causal log.
-abbrev pub outside-fifo : State → ℕ → ℕ → Bool
-outside-fifo s p m = absent (s (fifo-length p)) m (λ i. s (fifo p i))
-
-abbrev pub outside-causal : State → ℕ → ℕ → Bool
-outside-causal s p m = absent (s (causal-length p)) m (λ i. s (causal p i))
 
 -- p has an OK mark for m from q, if it waits for one: if it trusts q and q is an addressee.
 abbrev pub marked : State → ℕ → ℕ → ℕ → Bool

@@ -5,8 +5,8 @@ use mathlib.Core.List.{List}
 use Prim.Native.Nat.{ℕ, _+_, _-_, _*_, _/_, _%_, _^_}
 use lib.Dec.{ltb, leb, eqb}
 use lib.ListN.{length, getD}
-use Rattle.definitions.specs.General.{pick, needs, every, some, byte}
-use Rattle.definitions.specs.World.{size, count, rule, group, trust, counter, sequence, next, delivered, up, fifo-length, causal-length, held, marks, fifo, causal, sender, mask, stamp, number, flight, order, unused, State}
+use Rattle.definitions.specs.General.{pick, needs, every, byte}
+use Rattle.definitions.specs.World.{size, count, rule, group, trust, counter, sequence, next, delivered, up, fifo-length, causal-length, held, marks, fifo, causal, sender, mask, stamp, number, flight, order, unused, State, has-group}
 
 -- ---- a fresh world of n processes, process p of group (groups p)
 -- "next[q] (fresh: 1 for q below n), del[q], all else 0. The trust set starts as all n processes." A process
@@ -50,9 +50,9 @@ setup-bits bytes =
 unfoldable pub setup-group : List ℕ → ℕ → ℕ
 setup-group bytes i = setup-bits bytes / 2 ^ (3 * i) % 8
 
--- Some process is of group g.
-unfoldable pub setup-has : List ℕ → ℕ → Bool
-setup-has bytes g = some (byte bytes 1) (λ p. eqb (setup-group bytes p) g)
+-- The fresh world that a setup record makes.
+unfoldable pub made : List ℕ → State
+made bytes = fresh (byte bytes 1) (setup-group bytes)
 
 -- 8 bytes, the first 0, n from 1 to 16, the bits "zero from n on", and the groups "numbered from 0 without a
 -- gap": below each that a process has comes another.
@@ -63,12 +63,9 @@ good-setup bytes =
     && leb 1 (byte bytes 1)
     && leb (byte bytes 1) 16
     && eqb (setup-bits bytes / 2 ^ (3 * byte bytes 1)) 0
-    && every (byte bytes 1) (λ p. eqb (setup-group bytes p) 0 || setup-has bytes (setup-group bytes p - 1))
+    && every (byte bytes 1)
+    (λ p. eqb (setup-group bytes p) 0 || has-group (made bytes) (setup-group bytes p - 1))
 
 -- "3 setup record not as above, or not 8 bytes"; 0 where it is taken.
 unfoldable pub setup-refusal : List ℕ → ℕ
 setup-refusal bytes = needs 3 (good-setup bytes) 0
-
--- The fresh world that a setup record makes.
-unfoldable pub made : List ℕ → State
-made bytes = fresh (byte bytes 1) (setup-group bytes)

@@ -5,8 +5,8 @@ use mathlib.Core.List.{List}
 use Prim.Native.Nat.{ℕ, _+_, _*_, _^_}
 use lib.Dec.{ltb, eqb}
 use lib.ListN.{length}
-use Rattle.definitions.specs.General.{pick, needs, every, some, bit, only, byte, low-first}
-use Rattle.definitions.specs.World.{size, count, group, up, flight, State}
+use Rattle.definitions.specs.General.{pick, needs, every, bit, only, byte, low-first}
+use Rattle.definitions.specs.World.{size, count, up, flight, State, is-process, is-message, has-group}
 use Rattle.definitions.specs.Machine.{multicast, leave, arrival, trust-set, crash}
 
 -- ---- "A step is 8 bytes: kind, operands, zeros."
@@ -38,19 +38,9 @@ read bytes =
     (pick (eqb (byte bytes 0) 5 && zeros-from bytes 2) (crashes (byte bytes 1)) malformed)))))
 
 -- ---- the conditions of the refusals
--- Some process is of group g.
-unfoldable pub has-group : State → ℕ → Bool
-has-group s g = some (s size) (λ p. eqb (s (group p)) g)
-
 -- Not "empty or naming an absent group".
 unfoldable pub good-mask : State → ℕ → Bool
 good-mask s groups = not (eqb groups 0) && ltb groups 256 && only 8 groups (has-group s)
-
-abbrev pub is-process : State → ℕ → Bool
-is-process s p = ltb p (s size)
-
-abbrev pub is-message : State → ℕ → Bool
-is-message s m = ltb m (s count)
 
 abbrev pub is-up : State → ℕ → Bool
 is-up s p = eqb (s (up p)) 1

@@ -7,12 +7,12 @@ use mathlib.Core.List.{List, []}
 use Prim.Native.Nat.{ℕ}
 use lib.Dec.{eqb}
 use lib.ListN.{length, take, drop}
-use Rattle.definitions.specs.General.{pick, needs}
-use Rattle.definitions.specs.World.{fifo-length, causal-length, fifo, causal, addr, State, encode, view}
+use Rattle.definitions.specs.General.{needs, unless-refused, Reply, reply}
+use Rattle.definitions.specs.World.{fifo-length, causal-length, fifo, causal, addr, State, encode, view, is-process}
 use Rattle.definitions.specs.Sound.{sound}
 use Rattle.definitions.specs.Setup.{setup-refusal, made}
 use Rattle.definitions.specs.Machine.{arrival}
-use Rattle.definitions.specs.Steps.{Step, read, refusal, is-process, step}
+use Rattle.definitions.specs.Steps.{Step, read, refusal, step}
 use Rattle.definitions.specs.Settle.{Ending, Settled, lowest, settle-from}
 use Rattle.definitions.specs.History.{Engine, Run}
 
@@ -20,18 +20,6 @@ use Rattle.definitions.specs.History.{Engine, Run}
 -- "1 world not 20,480 words; 2 world not sound", else what follows.
 abbrev pub needs-world : List ℕ → ℕ → ℕ
 needs-world w rest = needs 1 (eqb (length w) 20480) (needs 2 (sound (view w)) rest)
-
--- The words u where the refusal is 0, else the words as they were.
-abbrev pub unless-refused : ℕ → List ℕ → List ℕ → List ℕ
-unless-refused n u w = pick (eqb n 0) u w
-
--- ---- what a call that gives a value answers: the value, or the number of a refusal
-pub data Reply (A : Type 0) : Type 0 where
-  gives : A → Reply A
-  refuses : ℕ → Reply A
-
-abbrev pub reply : {A : Type 0} → ℕ → A → Reply A
-reply n a = pick (eqb n 0) (gives a) (refuses n)
 
 -- ---- making a world from a setup record
 -- "Making a world from a setup record gives 1, then 3"; it overwrites any words and never gives 2.

@@ -1,11 +1,12 @@
 -- The world of document 01, section "The world": its named words (cells), their places among the 20,480
 -- words, a state as what stands in each cell, and the words of a state. It rests on General. Assumes nothing.
+use mathlib.Core.Bool.{Bool}
 use mathlib.Core.List.{List, [], _∷_}
 use Prim.Native.Nat.{ℕ, _+_, _-_, _*_, _/_, _%_}
 use native.Mathlib.Decide.{ℕ-discrete}
-use lib.Dec.{ltb}
+use lib.Dec.{ltb, eqb}
 use lib.ListN.{getD}
-use Rattle.definitions.specs.General.{pick, tabulate}
+use Rattle.definitions.specs.General.{pick, some, absent, tabulate, bit}
 
 -- The words of a world by name.
 pub data Cell : Type 0 where
@@ -121,3 +122,25 @@ encode s = tabulate 20480 (λ a. s (cell-at a))
 -- The state that words hold.
 abbrev pub view : List ℕ → State
 view w c = getD w (addr c) 0
+
+-- ---- what exists in a state
+abbrev pub is-process : State → ℕ → Bool
+is-process s p = ltb p (s size)
+
+abbrev pub is-message : State → ℕ → Bool
+is-message s m = ltb m (s count)
+
+-- Some process is of group g.
+unfoldable pub has-group : State → ℕ → Bool
+has-group s g = some (s size) (λ p. eqb (s (group p)) g)
+
+-- "Its addressees are all processes of those groups", the ones that the mask of m names: process p is one.
+abbrev pub addressed : State → ℕ → ℕ → Bool
+addressed s m p = bit (s (mask m)) (s (group p))
+
+-- m is outside the FIFO log of p, and outside its causal log.
+abbrev pub outside-fifo : State → ℕ → ℕ → Bool
+outside-fifo s p m = absent (s (fifo-length p)) m (λ i. s (fifo p i))
+
+abbrev pub outside-causal : State → ℕ → ℕ → Bool
+outside-causal s p m = absent (s (causal-length p)) m (λ i. s (causal p i))

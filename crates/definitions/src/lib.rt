@@ -1,5 +1,6 @@
-// The answers of the calls, as enums; Answers says what each case means.
-// The refusals of document 01 that a call on a world gives, each named by what was wrong.
+// The answers of the calls, as enums; specs/Answers says what each case means.
+
+// The refusals of document 01, each named by what was wrong.
 pub enum Refusal {
     WorldLength,
     WorldUnsound,
@@ -13,11 +14,22 @@ pub enum Refusal {
     Full,
     NotInFlight,
     BothUp,
+    JournalLength,
+    WrongCheck,
+    WrongForm,
+    RecordsLength,
+    OutputLength,
 }
 
-// The answer of making a world and of a step.
+// The answer of making a world, of a step, and of writing and reading a journal.
 pub enum Outcome {
     Taken,
+    Refused(Refusal),
+}
+
+// The answer of a call that asks how many: the items of a log, the bytes of a journal, its records.
+pub enum Amount {
+    Is(usize),
     Refused(Refusal),
 }
 
@@ -29,8 +41,8 @@ pub enum Settling {
     Refused(Refusal),
 }
 
-// The answer of asking for the length of a log.
-pub enum LogLength {
-    Items(usize),
+// The answer of a replay: the number of records after the setup, and how many of these were refused as steps.
+pub enum Replaying {
+    Done(usize, usize),
     Refused(Refusal),
 }

@@ -12,8 +12,8 @@ use Rattle.base.specs.Tests.{both, either}
 use Rattle.bounds.specs.Bounds.{Bounds, bounds-state}
 use Rattle.world.specs.Layout.{get-encode, Reads}
 use Rattle.sets.specs.Members.{Members}
-use Rattle.definitions.specs.Machine.{outside-causal, fits, deliverable, deliverable-at}
-use Rattle.definitions.specs.World.{size, group, delivered, causal-length, fifo, causal, sender, stamp, State, encode, view}
+use Rattle.definitions.specs.World.{outside-causal, size, group, delivered, causal-length, fifo, causal, sender, stamp, State, encode, view}
+use Rattle.definitions.specs.Machine.{fits, deliverable, deliverable-at}
 
 -- ---- what the tests read of words
 module _ (s : State) (h : Bounds s) (p : ℕ) (hp : p < 16) where

@@ -12,10 +12,10 @@ use lib.ListN.{length}
 use borrow.Author.Tests.{eq-eqb}
 use Rattle.base.specs.Tests.{clash, at-or-off}
 use Rattle.definitions.specs.General.{every, some, first-from, absent, chosen, loop, bit, with, without, mask-of, only}
-use Rattle.definitions.specs.World.{size, group, trust, up, fifo-length, causal-length, fifo, causal, State, put}
-use Rattle.definitions.specs.Setup.{fresh, setup-bits, setup-group, setup-has, good-setup, setup-refusal, made}
+use Rattle.definitions.specs.World.{size, group, trust, up, fifo-length, causal-length, fifo, causal, State, put, has-group}
+use Rattle.definitions.specs.Setup.{fresh, setup-bits, setup-group, good-setup, setup-refusal, made}
 use Rattle.definitions.specs.Machine.{with-tables, ready, deliverable, deliverable-at, merge, causal-one, causal-all, appended, raised-next, due, send-ok, send-oks, fifo-one, cascade, raised, stamped, numbered, posted, multicast, leave, mark, hold, arrival, trust-set, crash}
-use Rattle.definitions.specs.Steps.{read, has-group, good-mask, is-up, refusal, step}
+use Rattle.definitions.specs.Steps.{read, good-mask, is-up, refusal, step}
 use Rattle.definitions.specs.Settle.{moves, receiver, origin, kind, movable, letter-of, lowest, settle-from}
 use Rattle.definitions.specs.History.{Event, sent, got, here, there, same, carried, chain, Before, casts, deliveries, gained, Run, Item, given, tick, act, run, names, InForce, AllAlong, TrustRule}
 use Rattle.world.specs.Runs.{on-states, started}
@@ -197,7 +197,7 @@ crash-rule = record {
 
 -- so after a settle with 33,792 arrivals what one process has FIFO-delivered every live addressee has
 pub crash-agreed : Agreed (settled (run on-states (started pair) crashing) 33792 .world .now)
-unfolding setup-refusal good-setup setup-has setup-bits setup-group every
+unfolding setup-refusal good-setup setup-bits setup-group every
 crash-agreed = demand-3-states pair crashing refl .agreed crash-rule 33792 (omega arith)
 
 -- and the live process has: its own OK arrives in the settle, and the message of the process that crashed is
@@ -222,12 +222,12 @@ crash-delivered = refl
 module _ (w : List ℕ) (long : length w ≡ 20480) where
   -- the setup record is taken
   pair-taken : making-refusal w pair ≡ 0
-  unfolding making-refusal setup-refusal good-setup setup-has setup-bits setup-group every
+  unfolding making-refusal setup-refusal good-setup setup-bits setup-group every
   pair-taken = rw (eq-eqb (length w) 20480 long)
 
   -- the trust rule holds
   pub crash-rule-words : TrustRule on-words (started-words w pair) crashing
-  unfolding setup-refusal good-setup setup-has setup-bits setup-group every
+  unfolding setup-refusal good-setup setup-bits setup-group every
   crash-rule-words =
       rw (start-carried w pair pair-taken)
       (rule-written (started pair) crashing (fresh-sound pair refl) crash-rule)

@@ -7,13 +7,13 @@ use mathlib.Core.List.{List, [], _∷_, _++_, append-assoc}
 use Prim.Native.Nat.{ℕ, _≤_, _<_}
 use lib.ListN.{length, getD}
 use borrow.Author.Tests.{eq-eqb, eqb-true}
-use Rattle.definitions.specs.General.{In, bit}
+use Rattle.definitions.specs.General.{Reply, gives, refuses, In, bit}
 use Rattle.definitions.specs.World.{size, count, group, trust, up, mask, sender, view}
 use Rattle.definitions.specs.Steps.{is-up}
 use Rattle.definitions.specs.Settle.{Ending, done, stopped}
 use Rattle.definitions.specs.History.{Before, Run, Item, act, run, names, InForce, AllAlong, TrustRule}
-use Rattle.definitions.specs.Words.{Reply, gives, refuses, making-refusal, settled-words, settle-reply, log-words, on-words, started-words}
-use Rattle.definitions.specs.Demand.{AtMost, done-in, stopped-in, SaysDone, says-done}
+use Rattle.definitions.specs.Words.{making-refusal, settled-words, settle-reply, log-words, on-words, started-words}
+use Rattle.definitions.specs.Demand.{AtMost, done-within, stopped-within, SaysDone, says-done}
 use Rattle.demand.specs.Theorem.{demand-3}
 
 -- m stands in the list.
@@ -32,8 +32,8 @@ arrivals (gives (stopped n)) = n
 arrivals (refuses n) = 0
 
 named : {k : ℕ} {x y : Reply Ending} → AtMost k x → x ≡ y → arrivals y ≤ k
-named {k} (done-in i l) e = subst (λ z. arrivals z ≤ k) e l
-named {k} (stopped-in i l) e = subst (λ z. arrivals z ≤ k) e l
+named {k} (done-within i l) e = subst (λ z. arrivals z ≤ k) e l
+named {k} (stopped-within i l) e = subst (λ z. arrivals z ≤ k) e l
 
 answer : {x : Reply Ending} → SaysDone x → (n : ℕ) × (x ≡ gives (done n))
 answer (says-done n) = (n, refl)

@@ -7,10 +7,9 @@ use Prim.Native.Nat.{ℕ, _<_}
 use native.Mathlib.Omega.{arith}
 use lib.Dec.{eqb}
 use Rattle.definitions.specs.General.{bit}
-use Rattle.definitions.specs.World.{size, group, trust, up, mask, State, encode, view}
+use Rattle.definitions.specs.World.{size, group, trust, up, mask, State, encode, view, addressed}
 use Rattle.world.specs.Layout.{get-encode}
 use Rattle.world.specs.SoundLaws.{Sound, size-high}
-use Rattle.definitions.specs.Machine.{addressed}
 use Rattle.definitions.specs.Steps.{is-up}
 use Rattle.definitions.specs.History.{Run, Item, act, run, Names, names, InForce, Fair, AllAlong, TrustRule}
 use Rattle.world.specs.Runs.{on-states}

@@ -1,68 +1,28 @@
 // The functions that the archive exports. Each returns 0, or the number of the refusal of document 01; what else
 // it answers goes out through a lent number. A refusal leaves everything that was lent as it was.
-use definitions::LogLength;
-use definitions::Outcome;
+use definitions::Amount;
+use definitions::Replaying;
 use definitions::Settling;
-use journal::Counted;
-use journal::ReadBack;
-use journal::Sized;
-use journal::Written;
-use replaying::Replaying;
 ghost use mathlib.Core.Path.{_≡_};
 ghost use lib.ListN.{length};
-ghost use Rattle.definitions.specs.Journal.{write-refusal, written, read-refusal, read-out};
-ghost use Rattle.journal.specs.Answers.{of-written, of-read, length-answer, count-answer};
+ghost use Rattle.definitions.specs.General.{refusal-in, value-in};
+ghost use Rattle.definitions.specs.Journal.{needed-reply, write-refusal, written, count-reply, read-refusal, read-out};
 ghost use Rattle.definitions.specs.Words.{making-refusal, made-words, step-refusal, stepped-words, settle-reply, settled-words, log-start, length-reply};
-ghost use Rattle.definitions.specs.Answers.{outcome-number};
-ghost use Rattle.definitions.specs.Replay.{replay-reply, replayed-words};
-ghost use Rattle.engine.specs.Values.{given, refusal-in, value-in, arrivals-in, done-in, steps-in, refused-in};
-
-// The number of an outcome.
-fn outcome_number(x: Outcome) -> u32
-    ensures { λ r. ⌜ r ≡ outcome-number x ⌝ }
-{
-    match x {
-        Outcome::Taken => 0,
-        Outcome::Refused(r) => world::number(r),
-    }
-}
-
-// The number of an answer of writing a journal.
-fn write_number(x: Written) -> u32
-    ensures { λ r. ⌜ r ≡ of-written x ⌝ }
-{
-    match x {
-        Written::Done => 0,
-        Written::WrongRecords => 16,
-        Written::WrongOutput => 17,
-    }
-}
-
-// The number of an answer of reading a journal.
-fn read_number(x: ReadBack) -> u32
-    ensures { λ r. ⌜ r ≡ of-read x ⌝ }
-{
-    match x {
-        ReadBack::Done => 0,
-        ReadBack::WrongLength => 13,
-        ReadBack::WrongCheck => 14,
-        ReadBack::WrongForm => 15,
-        ReadBack::WrongOutput => 17,
-    }
-}
+ghost use Rattle.definitions.specs.Replay.{Counts, replay-reply, replayed-words};
+ghost use Rattle.definitions.specs.Answers.{arrivals-in, done-in};
 
 // The number of bytes of the journal of so many bytes of records: 0 or 16.
 #[no_mangle]
 pub extern "C" fn wt_journal_length(size: usize, needed: &mut u32) -> u32
-    ensures answer { λ r. ⌜ r ≡ length-answer size .refusal ⌝ }
-    ensures value { λ _. ⌜ now (needed .exit) ≡ given (length-answer size) (now (needed .entry)) ⌝ }
+    ensures answer { λ r. ⌜ r ≡ refusal-in (needed-reply size) ⌝ }
+    ensures value { λ _. ⌜ now (needed .exit) ≡ value-in (λ n. n) (needed-reply size) (now (needed .entry)) ⌝ }
 {
     match journal::length_for(size) {
-        Sized::Bytes(n) => {
+        Amount::Is(n) => {
             *needed = n as u32;
             0
         }
-        Sized::WrongRecords => 16,
+        Amount::Refused(r) => answers::number(r),
     }
 }
 
@@ -72,23 +32,21 @@ pub extern "C" fn wt_journal_write(records: &[u8], out: &mut [u8]) -> u32
     ensures answer { λ r. ⌜ r ≡ write-refusal (length (now (records .entry))) (length (now (out .entry))) ⌝ }
     ensures bytes { λ _. ⌜ now (out .exit) ≡ written (now (records .entry)) (now (out .entry)) ⌝ }
 {
-    write_number(journal::write(records, out))
+    answers::outcome(journal::write(records, out))
 }
 
 // The number of records of a journal: 0, 13, 14 or 15.
 #[no_mangle]
 pub extern "C" fn wt_journal_count(journal: &[u8], count: &mut u32) -> u32
-    ensures answer { λ r. ⌜ r ≡ count-answer (now (journal .entry)) .refusal ⌝ }
-    ensures value { λ _. ⌜ now (count .exit) ≡ given (count-answer (now (journal .entry))) (now (count .entry)) ⌝ }
+    ensures answer { λ r. ⌜ r ≡ refusal-in (count-reply (now (journal .entry))) ⌝ }
+    ensures value { λ _. ⌜ now (count .exit) ≡ value-in (λ n. n) (count-reply (now (journal .entry))) (now (count .entry)) ⌝ }
 {
     match journal::count(journal) {
-        Counted::Records(n) => {
+        Amount::Is(n) => {
             *count = n as u32;
             0
         }
-        Counted::WrongLength => 13,
-        Counted::WrongCheck => 14,
-        Counted::WrongForm => 15,
+        Amount::Refused(r) => answers::number(r),
     }
 }
 
@@ -98,7 +56,7 @@ pub extern "C" fn wt_journal_read(journal: &[u8], records: &mut [u8]) -> u32
     ensures answer { λ r. ⌜ r ≡ read-refusal (now (journal .entry)) (length (now (records .entry))) ⌝ }
     ensures bytes { λ _. ⌜ now (records .exit) ≡ read-out (now (journal .entry)) (now (records .entry)) ⌝ }
 {
-    read_number(journal::read(journal, records))
+    answers::outcome(journal::read(journal, records))
 }
 
 // Makes the world of a setup record in the lent words: 0, 1 or 3.
@@ -107,7 +65,7 @@ pub extern "C" fn wt_world_make(w: &mut [u16], setup: &[u8]) -> u32
     ensures answer { λ r. ⌜ r ≡ making-refusal (now (w .entry)) (now (setup .entry)) ⌝ }
     ensures words { λ _. ⌜ now (w .exit) ≡ made-words (now (w .entry)) (now (setup .entry)) ⌝ }
 {
-    outcome_number(making::make(w, setup))
+    answers::outcome(making::make(w, setup))
 }
 
 // Takes a step: 0, 1, 2 or 4 to 12.
@@ -116,7 +74,7 @@ pub extern "C" fn wt_step(w: &mut [u16], step: &[u8]) -> u32
     ensures answer { λ r. ⌜ r ≡ step-refusal (now (w .entry)) (now (step .entry)) ⌝ }
     ensures words { λ _. ⌜ now (w .exit) ≡ stepped-words (now (w .entry)) (now (step .entry)) ⌝ }
 {
-    outcome_number(calls::step(w, step))
+    answers::outcome(calls::step(w, step))
 }
 
 // Where the FIFO or the causal log of a process stands among the lent words, and its length: 0, 1, 2 or 5.
@@ -133,12 +91,12 @@ pub extern "C" fn wt_world_log(
     ensures items { λ _. ⌜ now (items .exit) ≡ value-in (λ n. n) (length-reply (now (w .entry)) p causal) (now (items .entry)) ⌝ }
 {
     match reading::log_length(w, p as usize, causal) {
-        LogLength::Items(n) => {
+        Amount::Is(n) => {
             *start = logs::start(p as usize, causal) as u32;
             *items = n as u32;
             0
         }
-        LogLength::Refused(r) => world::number(r),
+        Amount::Refused(r) => answers::number(r),
     }
 }
 
@@ -161,7 +119,7 @@ pub extern "C" fn wt_settle(w: &mut [u16], budget: u32, arrivals: &mut u32, done
             *done = 0;
             0
         }
-        Settling::Refused(r) => world::number(r),
+        Settling::Refused(r) => answers::number(r),
     }
 }
 
@@ -175,14 +133,15 @@ pub extern "C" fn wt_replay(
 ) -> u32
     ensures answer { λ r. ⌜ r ≡ refusal-in (replay-reply (now (w .entry)) (now (journal .entry))) ⌝ }
     ensures words { λ _. ⌜ now (w .exit) ≡ replayed-words (now (w .entry)) (now (journal .entry)) ⌝ }
-    ensures steps { λ _. ⌜ now (steps .exit) ≡ value-in steps-in (replay-reply (now (w .entry)) (now (journal .entry))) (now (steps .entry)) ⌝ }
-    ensures refused { λ _. ⌜ now (refused .exit) ≡ value-in refused-in (replay-reply (now (w .entry)) (now (journal .entry))) (now (refused .entry)) ⌝ }
+    ensures steps { λ _. ⌜ now (steps .exit) ≡ value-in (λ (c : Counts). c .steps) (replay-reply (now (w .entry)) (now (journal .entry))) (now (steps .entry)) ⌝ }
+    ensures refused { λ _. ⌜ now (refused .exit) ≡ value-in (λ (c : Counts). c .refused) (replay-reply (now (w .entry)) (now (journal .entry))) (now (refused .entry)) ⌝ }
 {
-    let x = replaying::replay(w, journal);
-    if let Replaying::Done(n, k) = x {
-        *steps = n as u32;
-        *refused = k as u32;
-        return 0;
+    match replaying::replay(w, journal) {
+        Replaying::Done(n, k) => {
+            *steps = n as u32;
+            *refused = k as u32;
+            0
+        }
+        Replaying::Refused(r) => answers::number(r),
     }
-    replaying::number(x)
 }

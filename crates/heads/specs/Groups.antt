@@ -11,8 +11,8 @@ use Rattle.base.specs.Tests.{both, both-l, both-r, both-i, same}
 use Rattle.definitions.specs.General.{every, some, bit, with}
 use Rattle.base.specs.Search.{every-true, every-intro, some-i, some-e, some-cong}
 use Rattle.base.specs.Bits.{bit-zero, bit-with}
-use Rattle.definitions.specs.World.{State, size, group}
-use Rattle.definitions.specs.Sound.{frame, process, present, word, fit, fine}
+use Rattle.definitions.specs.World.{State, size, group, is-process, has-group}
+use Rattle.definitions.specs.Sound.{word, fit, fine}
 use Rattle.ranges.specs.Laws.{every-none, every-next, some-none, some-next, or-zero}
 use Rattle.ranges.specs.Sets.{bit-up, subset-e, subset-i}
 
@@ -24,7 +24,7 @@ pub record GroupSet (s : State) (n set any : ℕ) : Type 0 where
 -- Whether the groups of the first n processes may be; and then the set is that of the groups that exist.
 pub record GroupTest (s : State) (n : ℕ) (good : Bool) (set : ℕ) : Type 0 where
   pub is-good : good ≡ every n (λ p. fine s (group p))
-  pub exist : good ≡ true → (g : ℕ) → bit set g ≡ present (frame s) g
+  pub exist : good ≡ true → (g : ℕ) → bit set g ≡ has-group s g
 
 -- ---- the loop
 pub group-none : (s : State) → GroupSet s 0 0 0
@@ -50,23 +50,23 @@ module _ (s : State) (n set any : ℕ) (en : n ≡ s size) (hs : set < 2 ^ 16) (
   above-bit : (g : ℕ) → bit (set / 2 ^ 1) g ≡ bit set (suc g)
   above-bit g = sym (bit-up set g)
 
-  cells-of : (g : ℕ) → present (frame s) g ≡ some n (λ p. eqb (s (group p)) g)
-  unfolding present
+  cells-of : (g : ℕ) → has-group s g ≡ some n (λ p. eqb (s (group p)) g)
+  unfolding has-group
   cells-of g = ap (λ (k : ℕ). some k (λ p. eqb (s (group p)) g)) (sym en)
 
-  here : (p : ℕ) → p < n → process (frame s) p ≡ true
+  here : (p : ℕ) → p < n → is-process s p ≡ true
   here p l = lt-ltb p (s size) (omega arith)
 
   fine-is : (p : ℕ) → p < n
-      → fine s (group p) ≡ (ltb (s (group p)) 8 && every (s (group p)) (present (frame s)))
+      → fine s (group p) ≡ (ltb (s (group p)) 8 && every (s (group p)) (has-group s))
   unfolding fine fit
   fine-is p l =
-      ap (λ (b : Bool). word b (s (group p)) (ltb (s (group p)) 8 && every (s (group p)) (present (frame s))))
+      ap (λ (b : Bool). word b (s (group p)) (ltb (s (group p)) 8 && every (s (group p)) (has-group s)))
       (here p l)
 
   -- where every group is below 8
   module _ (low : (p : ℕ) → p < n → s (group p) < 8) where
-    exact : (g : ℕ) → bit set g ≡ present (frame s) g
+    exact : (g : ℕ) → bit set g ≡ has-group s g
     exact g =
         h .have g
         ∙ some-cong n (λ p. eqb (s (group p) % 8) g) (λ p. eqb (s (group p)) g)
@@ -89,9 +89,9 @@ module _ (s : State) (n set any : ℕ) (en : n ≡ s size) (hs : set < 2 ^ 16) (
     fine-all : bitAnd (set / 2 ^ 1) set ≡ set / 2 ^ 1 → (p : ℕ) → p < n → fine s (group p) ≡ true
     fine-all e p l =
         fine-is p l
-        ∙ both-i (ltb (s (group p)) 8) (every (s (group p)) (present (frame s)))
+        ∙ both-i (ltb (s (group p)) 8) (every (s (group p)) (has-group s))
         (lt-ltb (s (group p)) 8 (low p l))
-        (every-intro (s (group p)) (present (frame s))
+        (every-intro (s (group p)) (has-group s)
         (λ g k. sym (exact g) ∙ down e (s (group p)) g k (exact (s (group p)) ∙ cells-of (s (group p))
         ∙ some-i n (λ q. eqb (s (group q)) (s (group p))) p l (eq-eqb (s (group p)) (s (group p)) refl))))
 
@@ -104,13 +104,13 @@ module _ (s : State) (n set any : ℕ) (en : n ≡ s size) (hs : set < 2 ^ 16) (
 
   -- where every group is fine
   module _ (f : (p : ℕ) → p < n → fine s (group p) ≡ true) where
-    parts : (p : ℕ) → p < n → (ltb (s (group p)) 8 && every (s (group p)) (present (frame s))) ≡ true
+    parts : (p : ℕ) → p < n → (ltb (s (group p)) 8 && every (s (group p)) (has-group s)) ≡ true
     parts p l = sym (fine-is p l) ∙ f p l
 
     low-fine : (p : ℕ) → p < n → s (group p) < 8
     low-fine p l =
         ltb-true (s (group p)) 8
-        (both-l (ltb (s (group p)) 8) (every (s (group p)) (present (frame s))) (parts p l))
+        (both-l (ltb (s (group p)) 8) (every (s (group p)) (has-group s)) (parts p l))
 
     any-fine : eqb (any / 2 ^ 3) 0 ≡ true
     any-fine =
@@ -127,8 +127,8 @@ module _ (s : State) (n set any : ℕ) (en : n ≡ s size) (hs : set < 2 ^ 16) (
             ∙ p) in
             let e : s (group (z .0)) ≡ suc g = eqb-true (s (group (z .0))) (suc g) (z .2) in
             exact low-fine g
-            ∙ every-true (s (group (z .0))) (present (frame s))
-            (both-r (ltb (s (group (z .0))) 8) (every (s (group (z .0))) (present (frame s)))
+            ∙ every-true (s (group (z .0))) (has-group s)
+            (both-r (ltb (s (group (z .0))) 8) (every (s (group (z .0))) (has-group s))
             (parts (z .0) (z .1))) g
             (omega arith)
 

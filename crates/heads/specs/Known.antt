@@ -5,8 +5,8 @@ use mathlib.Core.List.{List}
 use Prim.Native.Nat.{ℕ, _≤_, _<_}
 use lib.ListN.{length}
 use Rattle.definitions.specs.General.{bit}
-use Rattle.definitions.specs.World.{State, size, count, rule, group, sender, mask, view}
-use Rattle.definitions.specs.Sound.{frame, present, fine}
+use Rattle.definitions.specs.World.{State, size, count, rule, group, sender, mask, view, has-group}
+use Rattle.definitions.specs.Sound.{fine}
 
 -- The words are 20,480; n and the number of messages are theirs and obey their limits; the word for a later
 -- rule is zero.
@@ -21,7 +21,7 @@ pub record Sized (w : List ℕ) (n messages : ℕ) : Type 0 where
 
 -- groups is the set of the groups that exist.
 pub record Grouped (s : State) (groups : ℕ) : Type 0 where
-  pub exist : (g : ℕ) → bit groups g ≡ present (frame s) g
+  pub exist : (g : ℕ) → bit groups g ≡ has-group s g
 
 -- Each process has a group that may be.
 pub record Placed (s : State) : Type 0 where

@@ -8,8 +8,8 @@ use lib.Bits.{bitAnd}
 use lib.Dec.{ltb, eqb}
 use borrow.Author.Tests.{lt-ltb}
 use Rattle.definitions.specs.General.{every, only}
-use Rattle.definitions.specs.World.{State, sender, mask, view}
-use Rattle.definitions.specs.Sound.{frame, process, message, present, word, fit, fine}
+use Rattle.definitions.specs.World.{State, sender, mask, view, is-process, is-message, has-group}
+use Rattle.definitions.specs.Sound.{word, fit, fine}
 use Rattle.ranges.specs.Sets.{subset-only}
 use Rattle.heads.specs.Known.{Sized, Grouped}
 
@@ -33,13 +33,13 @@ unfolding head-ok fine fit
 head-law w n count groups m from to z g l ef et small =
     and-assoc (ltb from n) (not (eqb to 0)) (eqb (bitAnd to groups) to)
     ∙ ap (λ (b : Bool). ltb from n && (not (eqb to 0) && b))
-    (subset-only 16 to groups (present (frame (view w))) small (λ i _. g .exist i))
-    ∙ ap₂ (λ (a b : ℕ). ltb from a && (not (eqb b 0) && only 16 b (present (frame (view w))))) (z .size-is) et
-    ∙ ap (λ (a : ℕ). process (frame (view w)) a
-    && (not (eqb (view w (mask m)) 0) && only 16 (view w (mask m)) (present (frame (view w))))) ef
-    ∙ sym (ap₂ (λ (a b : Bool). word a (view w (sender m)) (process (frame (view w)) (view w (sender m)))
+    (subset-only 16 to groups (has-group (view w)) small (λ i _. g .exist i))
+    ∙ ap₂ (λ (a b : ℕ). ltb from a && (not (eqb b 0) && only 16 b (has-group (view w)))) (z .size-is) et
+    ∙ ap (λ (a : ℕ). is-process (view w) a
+    && (not (eqb (view w (mask m)) 0) && only 16 (view w (mask m)) (has-group (view w)))) ef
+    ∙ sym (ap₂ (λ (a b : Bool). word a (view w (sender m)) (is-process (view w) (view w (sender m)))
     && word b (view w (mask m)) (not (eqb (view w (mask m)) 0)
-    && only 16 (view w (mask m)) (present (frame (view w))))) here here)
+    && only 16 (view w (mask m)) (has-group (view w)))) here here)
   where
-    here : message (frame (view w)) m ≡ true
+    here : is-message (view w) m ≡ true
     here = lt-ltb m _ (let e = z .count-is in omega arith)

@@ -10,14 +10,14 @@ use native.Mathlib.Decide.{ℕ-discrete}
 use lib.Dec.{eqb}
 use borrow.Author.Tests.{ltb-true, lt-ltb, le-leb, leb-true, eqb-true, eq-eqb, ne-eqb, not-true}
 use Rattle.base.specs.Tests.{clash, both, both-l, both-r, both-i}
-use Rattle.definitions.specs.General.{pick, in-at, absent, bit}
+use Rattle.definitions.specs.General.{pick, in-at, bit}
 use Rattle.base.specs.Count.{absent-out, room-left}
 use Rattle.base.specs.Loop.{loop-keeps}
-use Rattle.definitions.specs.World.{size, count, rule, group, trust, counter, sequence, next, delivered, up, fifo-length, causal-length, held, marks, fifo, causal, sender, mask, stamp, number, flight, order, unused, State, put}
+use Rattle.definitions.specs.World.{size, count, rule, group, trust, counter, sequence, next, delivered, up, fifo-length, causal-length, held, marks, fifo, causal, sender, mask, stamp, number, flight, order, unused, State, put, is-process, is-message, has-group, outside-fifo}
 use Rattle.world.specs.Layout.{Within, put-at}
-use Rattle.definitions.specs.Sound.{Frame, frame, process, message, present, addressee, sends, logged-of, fit, fine}
+use Rattle.definitions.specs.Sound.{addressee, sends, logged-of, fit, fine}
 use Rattle.world.specs.SoundLaws.{Sound, size-high, count-high, sender-low, fifo-addressed, fifo-once, Addressed, held-facts, letter-facts}
-use Rattle.definitions.specs.Machine.{in-turn, outside-fifo, ready, causal-all, appended, raised-next, fifo-one, cascade, leave, mark, hold, received, arrival, trust-set}
+use Rattle.definitions.specs.Machine.{in-turn, ready, causal-all, appended, raised-next, fifo-one, cascade, leave, mark, hold, received, arrival, trust-set}
 use Rattle.world.specs.Kept.{marked-keeps, received-keeps}
 use Rattle.keeps.specs.Forms.{word-to}
 use Rattle.keeps.specs.Logs.{Longer, put-longer, longer-item, longer-bound, longer-length, longer-listed, longer-tally, item-weaker}
@@ -49,7 +49,7 @@ module _ (s : State) (p m : ℕ) (h : Sound s) (hp : p < s size) (a : Addressed 
   q = s (sender m)
 
   -- p is a process
-  here : process (frame s) p ≡ true
+  here : is-process s p ≡ true
   here = lt-ltb p (s size) hp
 
   -- m is a message
@@ -79,23 +79,23 @@ module _ (s : State) (p m : ℕ) (h : Sound s) (hp : p < s size) (a : Addressed 
       (λ n. rw (pair-apart p x q y (λ d f. n (ap₂ next d f))) (omega arith))
 
   -- it rises only between processes
-  rise-unused : (x y : ℕ) → both (process (frame s) x) (process (frame s) y) ≡ false → rise x y ≡ 0
+  rise-unused : (x y : ℕ) → both (is-process s x) (is-process s y) ≡ false → rise x y ≡ 0
   unfolding rise
   rise-unused x y u = go (eqb p x && eqb q y) refl
     where
       go : (b : Bool) → (eqb p x && eqb q y) ≡ b → _≡_ {A = ℕ} (pick b 1 0) 0
       go false e = refl
-      go true e = clash (both-i (process (frame s) x) (process (frame s) y)
-          (ap (process (frame s)) (sym (eqb-true p x (both-l (eqb p x) (eqb q y) e))) ∙ here)
-          (ap (process (frame s)) (sym (eqb-true q y (both-r (eqb p x) (eqb q y) e)))
+      go true e = clash (both-i (is-process s x) (is-process s y)
+          (ap (is-process s) (sym (eqb-true p x (both-l (eqb p x) (eqb q y) e))) ∙ here)
+          (ap (is-process s) (sym (eqb-true q y (both-r (eqb p x) (eqb q y) e)))
           ∙ lt-ltb q (s size) (sender-low s h m m-low))) u
 
   -- next is again 1 plus the number of messages of y in the FIFO log of x
   next-fits : (x y : ℕ) → Within (next x y) → fine (raised-next (appended s p m) p q) (next x y) ≡ true
   unfolding fine fit logged-of raised-next appended put rise
   next-fits x y k =
-      ap (λ (v : ℕ). fit (frame (appended s p m)) (next x y) v) (next-rises x y)
-      ∙ word-to (process (frame s) x && process (frame s) y) (s (next x y)) (s (next x y) + rise x y) _ _
+      ap (λ (v : ℕ). fit (appended s p m) (next x y) v) (next-rises x y)
+      ∙ word-to (is-process s x && is-process s y) (s (next x y)) (s (next x y) + rise x y) _ _
       (λ u t. eq-eqb (s (next x y) + rise x y) _ (omega (
         arith,
         eqb-true (s (next x y)) _ t,
@@ -105,7 +105,7 @@ module _ (s : State) (p m : ℕ) (h : Sound s) (hp : p < s size) (a : Addressed 
 
   -- both changes together keep soundness: what each cell's test asks
   appended-sound : Sound (raised-next (appended s p m) p q)
-  unfolding raised-next appended put fine fit present sends
+  unfolding raised-next appended put fine fit has-group sends
   appended-sound size k = h size k
   appended-sound count k = h count k
   appended-sound rule k = h rule k
@@ -117,9 +117,9 @@ module _ (s : State) (p m : ℕ) (h : Sound s) (hp : p < s size) (a : Addressed 
   appended-sound (delivered x y) k = h (delivered x y) k
   appended-sound (up x) k = h (up x) k
   appended-sound (fifo-length x) k =
-      longer-bound (fifo-longer s p m) (process (frame s)) (λ _. s count) here room x (h (fifo-length x) k)
+      longer-bound (fifo-longer s p m) (is-process s) (λ _. s count) here room x (h (fifo-length x) k)
   appended-sound (causal-length x) k =
-      word-to (process (frame s) x) (s (causal-length x)) (s (causal-length x)) _ _
+      word-to (is-process s x) (s (causal-length x)) (s (causal-length x)) _ _
       (λ u t. let old = leb-true (s (causal-length x)) (s (fifo-length x)) t in
       le-leb (s (causal-length x)) (appended s p m (fifo-length x))
       (omega (arith, longer-length (fifo-longer s p m) x)))
@@ -127,15 +127,13 @@ module _ (s : State) (p m : ℕ) (h : Sound s) (hp : p < s size) (a : Addressed 
   appended-sound (held x j) k = h (held x j) k
   appended-sound (marks x j) k = h (marks x j) k
   appended-sound (fifo x j) k =
-      longer-item (fifo-longer s p m) (process (frame s))
-      (λ y n. message (frame s) n && addressee (frame s) n y) here
-      (both-i (message (frame s) m) (addressee (frame s) m p) (a .of) (a .to)) new x j (h (fifo x j) k)
+      longer-item (fifo-longer s p m) (is-process s) (λ y n. is-message s n && addressee s n y) here
+      (both-i (is-message s m) (addressee s m p) (a .of) (a .to)) new x j (h (fifo x j) k)
   appended-sound (causal x j) k =
-      word-to (process (frame s) x) (s (causal x j)) (s (causal x j)) _ _
-      (λ _. item-weaker (s (causal-length x)) (λ n. not (absent (s (fifo-length x)) n (λ i. s (fifo x i))))
-      (λ n. not (absent (appended s p m (fifo-length x)) n (λ i. appended s p m (fifo x i))))
-      (λ i. s (causal x i)) j
-      (s (causal x j)) (λ e. ap not (longer-listed (fifo-longer s p m) x (s (causal x j)) (not-true _ e))))
+      word-to (is-process s x) (s (causal x j)) (s (causal x j)) _ _
+      (λ _. item-weaker (s (causal-length x)) (λ n. not (outside-fifo s x n))
+      (λ n. not (outside-fifo (appended s p m) x n)) (λ i. s (causal x i)) j (s (causal x j))
+      (λ e. ap not (longer-listed (fifo-longer s p m) x (s (causal x j)) (not-true _ e))))
       (λ _ z. z) (h (causal x j) k)
   appended-sound (sender j) k = h (sender j) k
   appended-sound (mask j) k = h (mask j) k
@@ -182,9 +180,9 @@ trust-set-sound s p set hp l h = cascade-sound (put s (trust p) set) p (trust-pu
 
 -- ---- an arrival of a letter in flight
 -- an OK comes from an addressee
-ok-from : (f : Frame) (m k q : ℕ) → k ≡ 2 → sends f m k q ≡ true → addressee f m q ≡ true
+ok-from : (s : State) (m k q : ℕ) → k ≡ 2 → sends s m k q ≡ true → addressee s m q ≡ true
 unfolding sends
-ok-from f m k q d e = ap (λ (j : ℕ). sends f m j q) (sym d) ∙ e
+ok-from s m k q d e = ap (λ (j : ℕ). sends s m j q) (sym d) ∙ e
 
 -- An arrival before its cascade.
 pub received-sound : (s : State) (k m q p : ℕ) → k < 3 → m < s count → q < s size → p < s size
@@ -197,11 +195,10 @@ received-sound s k m q p hk hm hq hp e h =
     let ht : Sound t = leave-sound s k m q p hk (room .0) (room .1) h in
     let u : State = mark t k m q p in
     let hu : Sound u = mark-sound t k m q p (room .0) (room .2) (record { of = z .of; to = z .to })
-    (λ d. ok-from (frame s) m k q d (z .from)) ht in
-    let f : frame u ≡ frame s = marked-keeps s k m q p frame (λ _ _ _ _. refl) (λ _ _. refl) in
+    (λ d. ok-from s m k q d (z .from)) ht in
     let hv : Sound (hold u p m) = hold-sound u p m (record {
-      of = ap (λ (x : Frame). message x m) f ∙ z .of;
-      to = ap (λ (x : Frame). addressee x m p) f ∙ z .to;
+      of = marked-keeps s k m q p (λ x. is-message x m) (λ _ _ _ _. refl) (λ _ _. refl) ∙ z .of;
+      to = marked-keeps s k m q p (λ x. addressee x m p) (λ _ _ _ _. refl) (λ _ _. refl) ∙ z .to;
     }) hu in
     let n = received-keeps s k m q p (λ t. t size) (λ _ _ _ _. refl) (λ _ _. refl) (λ _ _. refl) in
     (hv, omega arith)

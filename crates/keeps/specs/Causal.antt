@@ -8,14 +8,14 @@ use native.Mathlib.Omega.{arith}
 use lib.Dec.{leb, eqb}
 use borrow.Author.Tests.{ltb-true, lt-ltb, le-leb, eqb-true}
 use Rattle.base.specs.Tests.{clash, both-l, both-i}
-use Rattle.definitions.specs.General.{pick, in-at, absent}
+use Rattle.definitions.specs.General.{pick, in-at}
 use Rattle.base.specs.Count.{absent-out, in-absent, room-left}
 use Rattle.base.specs.Loop.{loop-keeps}
-use Rattle.definitions.specs.World.{Cell, size, count, rule, group, trust, counter, sequence, next, delivered, up, fifo-length, causal-length, held, marks, fifo, causal, sender, mask, stamp, number, flight, order, unused, State, put}
+use Rattle.definitions.specs.World.{Cell, size, count, rule, group, trust, counter, sequence, next, delivered, up, fifo-length, causal-length, held, marks, fifo, causal, sender, mask, stamp, number, flight, order, unused, State, put, is-process, has-group, outside-fifo, outside-causal}
 use Rattle.world.specs.Layout.{put-at}
-use Rattle.definitions.specs.Sound.{frame, process, present, sends, word, logged-of, fit, fine}
+use Rattle.definitions.specs.Sound.{sends, word, logged-of, fit, fine}
 use Rattle.world.specs.SoundLaws.{Sound, word-is, size-high, count-high, group-high, sender-low, stamp-high, fifo-addressed, causal-in-fifo, causal-once}
-use Rattle.definitions.specs.Machine.{with-tables, outside-causal, deliverable, deliverable-at, merge, causal-one, causal-all}
+use Rattle.definitions.specs.Machine.{with-tables, deliverable, deliverable-at, merge, causal-one, causal-all}
 use Rattle.keeps.specs.Forms.{word-max}
 use Rattle.keeps.specs.Logs.{Longer, put-longer, longer-item, longer-bound}
 use Rattle.keeps.specs.Changes.{SoundAt}
@@ -39,7 +39,7 @@ module _ (s : State) (p i : ℕ) (h : Sound s) (hp : p < s size) (hi : i < s (fi
   q = s (sender m)
 
   -- p is a process
-  here : process (frame s) p ≡ true
+  here : is-process s p ≡ true
   here = lt-ltb p (s size) hp
 
   -- p, m and its sender are in the world
@@ -50,9 +50,9 @@ module _ (s : State) (p i : ℕ) (h : Sound s) (hp : p < s size) (hi : i < s (fi
       omega (arith, size-high s h, count-high s h)
 
   -- the message is not in the causal log
-  outside : absent (s (causal-length p)) m (λ j. s (causal p j)) ≡ true
+  outside : outside-causal s p m ≡ true
   unfolding deliverable-at
-  outside = both-l (outside-causal s p (s (fifo p i))) (deliverable s p (s (fifo p i))) ready
+  outside = both-l (outside-causal s p m) (deliverable s p m) ready
 
   -- so that log has room: its items are distinct members of the FIFO log
   room : s (causal-length p) < s (fifo-length p)
@@ -61,23 +61,23 @@ module _ (s : State) (p i : ℕ) (h : Sound s) (hp : p < s size) (hi : i < s (fi
       (absent-out (s (causal-length p)) m (λ j. s (causal p j)) outside)
 
   -- what del of the sender becomes
-  delivered-fits : fit (frame s) (delivered p q) (s (stamp m (s (group p)) q)) ≡ true
+  delivered-fits : fit s (delivered p q) (s (stamp m (s (group p)) q)) ≡ true
   unfolding fit
   delivered-fits =
       let b = bounds in
-      word-is (process (frame s) p && process (frame s) q) _ _
+      word-is (is-process s p && is-process s q) _ _
       (λ _. le-leb _ (s count) (stamp-high s h m (s (group p)) q (b .2) (group-high s h p (b .0)) (b .4)))
-      (λ u. clash (both-i (process (frame s) p) (process (frame s) q) here (lt-ltb q (s size) (b .3))) u)
+      (λ u. clash (both-i (is-process s p) (is-process s q) here (lt-ltb q (s size) (b .3))) u)
 
   -- what the counters of p become
   counter-fits : (x g y : ℕ) → x < 16 → g < 8 → y < 16
-      → fit (frame s) (counter x g y) (pick (eqb p x) (max (s (counter x g y)) (s (stamp m g y)))
+      → fit s (counter x g y) (pick (eqb p x) (max (s (counter x g y)) (s (stamp m g y)))
       (s (counter x g y))) ≡ true
   unfolding fine fit
   counter-fits x g y hx hg hy = go (eqb p x) refl
     where
       used : Bool
-      used = process (frame s) x && present (frame s) g && process (frame s) y
+      used = is-process s x && has-group s g && is-process s y
 
       old : word used (s (counter x g y)) (leb (s (counter x g y)) (s count)) ≡ true
       old = h (counter x g y) (hx, hg, hy)
@@ -89,14 +89,14 @@ module _ (s : State) (p i : ℕ) (h : Sound s) (hp : p < s size) (hi : i < s (fi
       go true e =
           let b = bounds in
           word-max used (s (counter x g y)) (s (stamp m g y)) (s count) old
-          (ap (λ (a : Bool). word (a && present (frame s) g && process (frame s) y) (s (stamp m g y))
+          (ap (λ (a : Bool). word (a && has-group s g && is-process s y) (s (stamp m g y))
           (leb (s (stamp m g y)) (s count)))
-          (ap (process (frame s)) (sym (eqb-true p x e)) ∙ here ∙ sym (lt-ltb m (s count) (b .1)))
+          (ap (is-process s) (sym (eqb-true p x e)) ∙ here ∙ sym (lt-ltb m (s count) (b .1)))
           ∙ h (stamp m g y) (b .2, hg, hy))
 
   -- one causal delivery: what each cell's test asks
   pub causal-one-sound : Sound (causal-one s p i)
-  unfolding causal-one merge with-tables put fine fit present sends logged-of
+  unfolding causal-one merge with-tables put fine fit has-group sends logged-of
   causal-one-sound size k = h size k
   causal-one-sound count k = h count k
   causal-one-sound rule k = h rule k
@@ -107,20 +107,19 @@ module _ (s : State) (p i : ℕ) (h : Sound s) (hp : p < s size) (hi : i < s (fi
   causal-one-sound (next x y) k = h (next x y) k
   causal-one-sound (delivered x y) k =
       put-at s (delivered p q) (delivered x y) (s (stamp m (s (group p)) q))
-      (λ v. fit (frame s) (delivered x y) v ≡ true)
-      (λ e. subst (λ (c : Cell). fit (frame s) c (s (stamp m (s (group p)) q)) ≡ true) e delivered-fits)
+      (λ v. fit s (delivered x y) v ≡ true)
+      (λ e. subst (λ (c : Cell). fit s c (s (stamp m (s (group p)) q)) ≡ true) e delivered-fits)
       (λ _. h (delivered x y) k)
   causal-one-sound (up x) k = h (up x) k
   causal-one-sound (fifo-length x) k = h (fifo-length x) k
   causal-one-sound (causal-length x) k =
-      longer-bound (causal-longer s p m) (process (frame s)) (λ y. s (fifo-length y)) here room x
+      longer-bound (causal-longer s p m) (is-process s) (λ y. s (fifo-length y)) here room x
       (h (causal-length x) k)
   causal-one-sound (held x j) k = h (held x j) k
   causal-one-sound (marks x j) k = h (marks x j) k
   causal-one-sound (fifo x j) k = h (fifo x j) k
   causal-one-sound (causal x j) k =
-      longer-item (causal-longer s p m) (process (frame s))
-      (λ y n. not (absent (s (fifo-length y)) n (λ a. s (fifo y a)))) here
+      longer-item (causal-longer s p m) (is-process s) (λ y n. not (outside-fifo s y n)) here
       (ap not (in-absent {f = λ a. s (fifo p a)} (in-at i hi refl))) outside x j (h (causal x j) k)
   causal-one-sound (sender j) k = h (sender j) k
   causal-one-sound (mask j) k = h (mask j) k

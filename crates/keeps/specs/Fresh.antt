@@ -1,7 +1,7 @@
 -- The fresh world of an accepted setup record is sound. The argument: every word is zero but n, the groups,
 -- the trust sets, the up flags and next, each of which passes; below each group of the record another exists,
 -- so by induction all below it exist. It rests on Setup (world) and Forms. Assumes nothing.
-use mathlib.Core.Path.{_≡_, refl, ap, _∙_}
+use mathlib.Core.Path.{_≡_, refl, sym, ap, _∙_}
 use mathlib.Core.Bool.{Bool, true, false, _&&_, _||_}
 use mathlib.Core.List.{List}
 use mathlib.Core.Logic.{_⊎_, inl, inr}
@@ -13,14 +13,15 @@ use lib.Dec.{ltb, leb, eqb, lit<}
 use lib.ListN.{length}
 use lib.Pow.{pow-pos}
 use borrow.Author.Tests.{ltb-true, lt-ltb, le-ltb, leb-true, le-leb, eq-eqb, eqb-true}
-use Rattle.base.specs.Tests.{both-l, both-r, both-i, either-e, pick-yes}
-use Rattle.definitions.specs.General.{pick, needs, every, some, tally, only, byte}
-use Rattle.base.specs.Search.{every-true, every-intro, some-i, some-e, some-cong}
+use Rattle.base.specs.Tests.{both-l, both-r, both-i, either-e}
+use Rattle.definitions.specs.General.{pick, needs, every, tally, only, byte}
+use Rattle.base.specs.Search.{every-true, every-intro, some-i, some-e}
 use Rattle.base.specs.Bits.{only-i}
-use Rattle.definitions.specs.World.{size, count, rule, group, trust, counter, sequence, next, delivered, up, fifo-length, causal-length, held, marks, fifo, causal, sender, mask, stamp, number, flight, order, unused}
-use Rattle.definitions.specs.Sound.{Frame, frame, process, message, present, addressee, sends, word, item, logged-of, fit, fine}
+use Rattle.definitions.specs.World.{size, count, rule, group, trust, counter, sequence, next, delivered, up, fifo-length, causal-length, held, marks, fifo, causal, sender, mask, stamp, number, flight, order, unused, State, is-process, is-message, has-group}
+use Rattle.definitions.specs.Sound.{addressee, sends, word, item, logged-of, fit, fine}
 use Rattle.world.specs.SoundLaws.{Sound}
-use Rattle.definitions.specs.Setup.{fresh, setup-bits, setup-group, setup-has, good-setup, setup-refusal, made}
+use Rattle.world.specs.SetupLaws.{fresh-groups}
+use Rattle.definitions.specs.Setup.{fresh, setup-bits, setup-group, good-setup, setup-refusal, made}
 use Rattle.keeps.specs.Forms.{word-zero, bit-below}
 
 -- a word that is a where it is in use, and zero elsewhere
@@ -31,9 +32,9 @@ word-pick false a t f = refl
 
 -- ---- n processes with these groups
 module _ (n : ℕ) (groups : ℕ → ℕ) (low : 1 ≤ n) (high : n ≤ 16) (few : (p : ℕ) → groups p < 8)
-    (gapless : (p g : ℕ) → p < n → g < groups p → some n (λ q. eqb (groups q) g) ≡ true) where
-  abbrev f : Frame
-  f = frame (fresh n groups)
+    (gapless : (p g : ℕ) → p < n → g < groups p → has-group (fresh n groups) g ≡ true) where
+  abbrev s : State
+  s = fresh n groups
 
   -- a zero word that may be anything up to zero
   at-most-zero : (b : Bool) → word b 0 (leb 0 0) ≡ true
@@ -49,14 +50,10 @@ module _ (n : ℕ) (groups : ℕ → ℕ) (low : 1 ≤ n) (high : n ≤ 16) (few
   no-message b m t = rw (le-ltb m 0 (omega arith))
 
   -- the group of a process passes: all below it exist
-  group-fits : (p : ℕ) → p < n → (ltb (groups p) 8 && every (groups p) (present f)) ≡ true
-  unfolding fresh present
+  group-fits : (p : ℕ) → p < n → (ltb (groups p) 8 && every (groups p) (has-group s)) ≡ true
   group-fits p l =
-      both-i (ltb (groups p) 8) (every (groups p) (present f)) (lt-ltb (groups p) 8 (few p))
-      (every-intro (groups p) (present f) (λ g k.
-      some-cong n (λ q. eqb (pick (ltb q n) (groups q) 0) g) (λ q. eqb (groups q) g)
-      (λ q a. ap (λ (x : ℕ). eqb x g) (pick-yes (groups q) 0 (lt-ltb q n a)))
-      ∙ gapless p g l k))
+      both-i (ltb (groups p) 8) (every (groups p) (has-group s)) (lt-ltb (groups p) 8 (few p))
+      (every-intro (groups p) (has-group s) (λ g k. gapless p g l k))
 
   -- the trust set of all n processes passes
   trust-fits : only 16 (2 ^ n - 1) (λ q. ltb q n) ≡ true
@@ -71,25 +68,25 @@ module _ (n : ℕ) (groups : ℕ → ℕ) (low : 1 ≤ n) (high : n ≤ 16) (few
   fresh-world-sound count k = refl
   fresh-world-sound rule k = refl
   fresh-world-sound (group p) k =
-      word-pick (ltb p n) (groups p) (λ x. ltb x 8 && every x (present f)) (λ e. group-fits p (ltb-true p n e))
+      word-pick (ltb p n) (groups p) (λ x. ltb x 8 && every x (has-group s)) (λ e. group-fits p (ltb-true p n e))
   fresh-world-sound (trust p) k =
       word-pick (ltb p n) (2 ^ n - 1) (λ x. only 16 x (λ q. ltb q n)) (λ _. trust-fits)
-  fresh-world-sound (counter p g q) k = at-most-zero (process f p && present f g && process f q)
-  fresh-world-sound (sequence p g) k = at-most-zero (process f p && present f g)
+  fresh-world-sound (counter p g q) k = at-most-zero (is-process s p && has-group s g && is-process s q)
+  fresh-world-sound (sequence p g) k = at-most-zero (is-process s p && has-group s g)
   fresh-world-sound (next p q) k = word-pick (ltb p n && ltb q n) 1 (λ x. eqb x 1) (λ _. refl)
-  fresh-world-sound (delivered p q) k = at-most-zero (process f p && process f q)
+  fresh-world-sound (delivered p q) k = at-most-zero (is-process s p && is-process s q)
   fresh-world-sound (up p) k = word-pick (ltb p n) 1 (λ x. leb x 1) (λ _. refl)
-  fresh-world-sound (fifo-length p) k = at-most-zero (process f p)
-  fresh-world-sound (causal-length p) k = at-most-zero (process f p)
-  fresh-world-sound (held p m) k = no-message (addressee f m p) m _
-  fresh-world-sound (marks p m) k = no-message (addressee f m p) m _
-  fresh-world-sound (fifo p i) k = no-item (process f p) _ _ i
-  fresh-world-sound (causal p i) k = no-item (process f p) _ _ i
+  fresh-world-sound (fifo-length p) k = at-most-zero (is-process s p)
+  fresh-world-sound (causal-length p) k = at-most-zero (is-process s p)
+  fresh-world-sound (held p m) k = no-message (addressee s m p) m _
+  fresh-world-sound (marks p m) k = no-message (addressee s m p) m _
+  fresh-world-sound (fifo p i) k = no-item (is-process s p) _ _ i
+  fresh-world-sound (causal p i) k = no-item (is-process s p) _ _ i
   fresh-world-sound (sender m) k = rw (le-ltb m 0 (omega arith))
   fresh-world-sound (mask m) k = rw (le-ltb m 0 (omega arith))
-  fresh-world-sound (stamp m g q) k = at-most-zero (message f m && present f g && process f q)
-  fresh-world-sound (number m g) k = at-most-zero (message f m && present f g)
-  fresh-world-sound (flight m i q) k = no-message (sends f m i q) m _
+  fresh-world-sound (stamp m g q) k = at-most-zero (is-message s m && has-group s g && is-process s q)
+  fresh-world-sound (number m g) k = at-most-zero (is-message s m && has-group s g)
+  fresh-world-sound (flight m i q) k = no-message (sends s m i q) m _
   fresh-world-sound (order m) k = refl
   fresh-world-sound (unused a) k = refl
 
@@ -116,39 +113,42 @@ module _ (bytes : List ℕ) (good : good-setup bytes ≡ true) where
       leb-true n 16 (both-r (eqb (length bytes) 8 && eqb (byte bytes 0) 0 && leb 1 n) (leb n 16) first-four)
 
   -- the group just below that of p exists
-  has-below : (p g : ℕ) → p < n → setup-group bytes p ≡ suc g → setup-has bytes g ≡ true
+  has-below : (p g : ℕ) → p < n → setup-group bytes p ≡ suc g → has-group (made bytes) g ≡ true
   unfolding good-setup
-  has-below p g l e = go (either-e (eqb (setup-group bytes p) 0) (setup-has bytes (setup-group bytes p - 1))
-      (every-true n (λ q. eqb (setup-group bytes q) 0 || setup-has bytes (setup-group bytes q - 1))
+  has-below p g l e = go
+      (either-e (eqb (setup-group bytes p) 0) (has-group (made bytes) (setup-group bytes p - 1))
+      (every-true n (λ q. eqb (setup-group bytes q) 0 || has-group (made bytes) (setup-group bytes q - 1))
       (both-r (eqb (length bytes) 8 && eqb (byte bytes 0) 0 && leb 1 n && leb n 16
       && eqb (setup-bits bytes / 2 ^ (3 * n)) 0) _ good) p l))
     where
-      go : (eqb (setup-group bytes p) 0 ≡ true) ⊎ (setup-has bytes (setup-group bytes p - 1) ≡ true)
-          → setup-has bytes g ≡ true
+      go : (eqb (setup-group bytes p) 0 ≡ true) ⊎ (has-group (made bytes) (setup-group bytes p - 1) ≡ true)
+          → has-group (made bytes) g ≡ true
       go (inl z) = absurd (omega (arith, eqb-true (setup-group bytes p) 0 z))
-      go (inr z) = ap (setup-has bytes) (omega arith) ∙ z
+      go (inr z) = ap (has-group (made bytes)) (omega arith) ∙ z
 
   -- so all groups below one that exists do
-  has-all-below : (g x : ℕ) → x ≤ g → setup-has bytes g ≡ true → setup-has bytes x ≡ true
-  unfolding setup-has
-  has-all-below zero x l e = ap (setup-has bytes) (omega arith) ∙ e
+  has-all-below : (g x : ℕ) → x ≤ g → has-group (made bytes) g ≡ true → has-group (made bytes) x ≡ true
+  unfolding made
+  has-all-below zero x l e = ap (has-group (made bytes)) (omega arith) ∙ e
   has-all-below (suc g) x l e = go (ℕ-discrete x (suc g)) (λ k. has-all-below g x k)
     where
-      go : Dec (x ≡ suc g) → (x ≤ g → setup-has bytes g ≡ true → setup-has bytes x ≡ true)
-          → setup-has bytes x ≡ true
-      go (yes d) ih = ap (setup-has bytes) d ∙ e
+      go : Dec (x ≡ suc g) → (x ≤ g → has-group (made bytes) g ≡ true → has-group (made bytes) x ≡ true)
+          → has-group (made bytes) x ≡ true
+      go (yes d) ih = ap (has-group (made bytes)) d ∙ e
       go (no d) ih =
-          let z = some-e n (λ p. eqb (setup-group bytes p) (suc g)) e in
+          let z = some-e n (λ p. eqb (setup-group bytes p) (suc g))
+          (sym (fresh-groups n (setup-group bytes) (suc g)) ∙ e) in
           ih (omega arith) (has-below (z .0) g (z .1) (eqb-true (setup-group bytes (z .0)) (suc g) (z .2)))
 
   -- the world that it makes is sound
   pub made-sound : Sound (made bytes)
-  unfolding made setup-has setup-group
+  unfolding made setup-group
   made-sound =
       fresh-world-sound n (setup-group bytes) size-low size-high
       (λ p. mod-lt (setup-bits bytes / 2 ^ (3 * p)) (lit< tt))
       (λ p g l k. has-all-below (setup-group bytes p) g (omega arith)
-      (some-i n (λ q. eqb (setup-group bytes q) (setup-group bytes p)) p l
+      (fresh-groups n (setup-group bytes) (setup-group bytes p)
+      ∙ some-i n (λ q. eqb (setup-group bytes q) (setup-group bytes p)) p l
       (eq-eqb (setup-group bytes p) (setup-group bytes p) refl)))
 
 -- a record that is not refused is as document 01 says

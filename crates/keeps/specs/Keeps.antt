@@ -9,7 +9,7 @@ use native.Mathlib.Omega.{arith}
 use lib.Dec.{eqb}
 use lib.ListN.{length}
 use borrow.Author.Tests.{eqb-true, eq-eqb}
-use Rattle.definitions.specs.General.{pick}
+use Rattle.definitions.specs.General.{pick, unless-refused}
 use Rattle.base.specs.Refusals.{needs-none}
 use Rattle.definitions.specs.World.{State, encode, view}
 use Rattle.world.specs.Layout.{length-encode}
@@ -21,7 +21,7 @@ use Rattle.definitions.specs.Steps.{Step, multicasts, arrives, loses, trusts, c
 use Rattle.world.specs.StepLaws.{accepted-multicast, accepted-arrival, accepted-loss, accepted-trust, moves-taken, lowest-moves}
 use Rattle.definitions.specs.Settle.{Choice, letter, lowest, settle-from}
 use Rattle.world.specs.SettleLaws.{settle, settle-keeps}
-use Rattle.definitions.specs.Words.{needs-world, unless-refused, making-refusal, made-words, step-words, step-refusal, stepped-words, settle-words, settled-words}
+use Rattle.definitions.specs.Words.{needs-world, making-refusal, made-words, step-words, step-refusal, stepped-words, settle-words, settled-words}
 use Rattle.definitions.specs.History.{Run, Item, given, settling, taken, tick, settles, act, run}
 use Rattle.world.specs.Runs.{on-states}
 use Rattle.world.specs.Calls.{item-words, run-words}

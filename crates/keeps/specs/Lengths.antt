@@ -12,8 +12,8 @@ use borrow.Author.Tests.{ltb-true, lt-ltb, leb-true, le-leb, not-true}
 use Rattle.base.specs.Tests.{both-l, both-r}
 use Rattle.definitions.specs.General.{In, in-at, absent}
 use Rattle.base.specs.Count.{absent-in, absent-out, room-within}
-use Rattle.definitions.specs.World.{count, fifo-length, causal-length, fifo, causal, State}
-use Rattle.definitions.specs.Sound.{frame, process, message, addressee, word, item, fit, fine}
+use Rattle.definitions.specs.World.{count, fifo-length, causal-length, fifo, causal, State, is-process, is-message, outside-fifo}
+use Rattle.definitions.specs.Sound.{addressee, word, item, fit, fine}
 use Rattle.world.specs.SoundLaws.{word-in}
 use Rattle.keeps.specs.Forms.{word-to}
 
@@ -54,26 +54,24 @@ module _ (used : Bool) (n : ℕ) (ok : ℕ → Bool) (log : ℕ → ℕ) (fits :
 
 -- the length of a FIFO log passes the test of Sound
 pub fifo-length-follows : (s : State) (p : ℕ)
-    → word (process (frame s) p) (s (fifo-length p)) (leb (s (fifo-length p)) 64) ≡ true
+    → word (is-process s p) (s (fifo-length p)) (leb (s (fifo-length p)) 64) ≡ true
     → ((i : ℕ) → i < 64 → fine s (fifo p i) ≡ true) → fine s (fifo-length p) ≡ true
 unfolding fine fit
 fifo-length-follows s p fits items =
-    length-follows (process (frame s) p) (s (fifo-length p))
-    (λ m. message (frame s) m && addressee (frame s) m p)
+    length-follows (is-process s p) (s (fifo-length p)) (λ m. is-message s m && addressee s m p)
     (λ i. s (fifo p i)) fits items (s count)
     (λ once pass. distinct-length (s count) (s (fifo-length p)) (λ i. s (fifo p i)) once
     (λ i l. ltb-true (s (fifo p i)) (s count)
-    (both-l (message (frame s) (s (fifo p i))) (addressee (frame s) (s (fifo p i)) p) (pass i l))))
+    (both-l (is-message s (s (fifo p i))) (addressee s (s (fifo p i)) p) (pass i l))))
 
 -- so does the length of a causal log
 pub causal-length-follows : (s : State) (p : ℕ)
-    → word (process (frame s) p) (s (causal-length p)) (leb (s (causal-length p)) 64) ≡ true
+    → word (is-process s p) (s (causal-length p)) (leb (s (causal-length p)) 64) ≡ true
     → ((i : ℕ) → i < 64 → fine s (causal p i) ≡ true) → fine s (causal-length p) ≡ true
 unfolding fine fit
 causal-length-follows s p fits items =
-    length-follows (process (frame s) p) (s (causal-length p))
-    (λ m. not (absent (s (fifo-length p)) m (λ i. s (fifo p i)))) (λ i. s (causal p i)) fits items
-    (s (fifo-length p))
+    length-follows (is-process s p) (s (causal-length p))
+    (λ m. not (outside-fifo s p m)) (λ i. s (causal p i)) fits items (s (fifo-length p))
     (λ once pass. members-length (s (fifo-length p)) (s (causal-length p)) (λ i. s (fifo p i))
     (λ i. s (causal p i)) once
     (λ i l. absent-in (s (fifo-length p)) (s (causal p i)) (λ j. s (fifo p j)) (not-true _ (pass i l))))

@@ -17,10 +17,10 @@ use Rattle.base.specs.Tests.{clash, is-same}
 use Rattle.definitions.specs.General.{every, some, first-from, absent, in-at, tabulate, chosen, loop, bit, with, without, mask-of, only}
 use Rattle.base.specs.Search.{every-true}
 use Rattle.base.specs.Bits.{bit-zero}
-use Rattle.definitions.specs.World.{size, count, causal-length, held, causal, flight, State, put}
-use Rattle.definitions.specs.Machine.{with-tables, addressed, ready, deliverable, deliverable-at, merge, causal-one, causal-all, appended, raised-next, due, send-ok, send-oks, fifo-one, cascade, raised, stamped, numbered, posted, multicast, leave, mark, hold, arrival, trust-set, crash}
-use Rattle.definitions.specs.Steps.{Step, multicasts, arrives, loses, trusts, crashes, malformed, read, has-group, good-mask, refusal, accepted, step}
-use Rattle.definitions.specs.Setup.{fresh, setup-bits, setup-group, setup-has, good-setup, setup-refusal, made}
+use Rattle.definitions.specs.World.{size, count, causal-length, held, causal, flight, State, put, addressed, has-group}
+use Rattle.definitions.specs.Machine.{with-tables, ready, deliverable, deliverable-at, merge, causal-one, causal-all, appended, raised-next, due, send-ok, send-oks, fifo-one, cascade, raised, stamped, numbered, posted, multicast, leave, mark, hold, arrival, trust-set, crash}
+use Rattle.definitions.specs.Steps.{Step, multicasts, arrives, loses, trusts, crashes, malformed, read, good-mask, refusal, accepted, step}
+use Rattle.definitions.specs.Setup.{fresh, setup-bits, setup-group, good-setup, setup-refusal, made}
 use Rattle.definitions.specs.Words.{log-words, on-words, started-words}
 use Rattle.definitions.specs.History.{casted, gained, deliveries, Run, Item, given, taken, tick, act, run, InForce}
 use Rattle.world.specs.Runs.{on-states, started}
@@ -145,7 +145,7 @@ unfolding end-4 ℕ-discrete run act tick gained deliveries knowledge every some
 case-4-facts = (refl, refl, refl, refl, refl, refl)
 
 setup-taken : setup-refusal three ≡ 0
-unfolding setup-refusal good-setup setup-has setup-group setup-bits every some
+unfolding setup-refusal good-setup has-group made fresh setup-group setup-bits every some
 setup-taken = refl
 
 end-4-lost : Lost end-4

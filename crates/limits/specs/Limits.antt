@@ -10,8 +10,8 @@ use lib.ListN.{length, getD, set}
 use lib.Seq.{getD-set-same, getD-set-other}
 use borrow.Author.Tests.{eq-eqb, ne-eqb, le-leb, lt-leb}
 use Rattle.definitions.specs.General.{pick, bit}
-use Rattle.definitions.specs.World.{State, size}
-use Rattle.definitions.specs.Sound.{frame, process, present, word}
+use Rattle.definitions.specs.World.{State, size, is-process, has-group}
+use Rattle.definitions.specs.Sound.{word}
 use Rattle.heads.specs.Known.{Grouped}
 
 -- What place i counts for exists, of n processes and these groups.
@@ -31,8 +31,8 @@ pub record Limits (n groups count : ℕ) (t : List ℕ) : Type 0 where
 -- The same of a state: what place i counts for exists.
 unfoldable pub exists-at : State → ℕ → Bool
 exists-at s i =
-    pick (ltb i 128) (present (frame s) (i / 16) && process (frame s) (i % 16))
-    (pick (ltb i 136) (present (frame s) (i - 128)) (process (frame s) (i - 136)))
+    pick (ltb i 128) (has-group s (i / 16) && is-process s (i % 16))
+    (pick (ltb i 136) (has-group s (i - 128)) (is-process s (i - 136)))
 
 pub used-exists : (s : State) (n groups i : ℕ) → n ≡ s size → Grouped s groups → used-at n groups i
     ≡ exists-at s i
@@ -40,8 +40,8 @@ unfolding used-at exists-at
 used-exists s n groups i en g =
     ap₂ (λ (a b : Bool). pick (ltb i 128) (a && ltb (i % 16) n) (pick (ltb i 136) b (ltb (i - 136) n)))
     (g .exist (i / 16)) (g .exist (i - 128))
-    ∙ ap (λ (k : ℕ). pick (ltb i 128) (present (frame s) (i / 16) && ltb (i % 16) k)
-    (pick (ltb i 136) (present (frame s) (i - 128)) (ltb (i - 136) k))) en
+    ∙ ap (λ (k : ℕ). pick (ltb i 128) (has-group s (i / 16) && ltb (i % 16) k)
+    (pick (ltb i 136) (has-group s (i - 128)) (ltb (i - 136) k))) en
 
 -- in use and at most c, or zero: at most the limit
 pub word-limit : (b : Bool) (x c : ℕ) → word b x (leb x c) ≡ leb x (pick b c 0)

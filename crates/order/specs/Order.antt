@@ -12,8 +12,7 @@ use native.Mathlib.Decide.{ℕ-discrete}
 use Rattle.base.specs.Tests.{le-or-lt, strong, both, both-l, both-r, both-i}
 use Rattle.base.specs.Count.{tally-mono, Last, never, last-at, last-of}
 use Rattle.definitions.specs.General.{In, in-at}
-use Rattle.definitions.specs.World.{count, group, counter, sequence, next, delivered, fifo-length, causal-length, fifo, causal, sender, stamp, number, State}
-use Rattle.definitions.specs.Machine.{addressed}
+use Rattle.definitions.specs.World.{count, group, counter, sequence, next, delivered, fifo-length, causal-length, fifo, causal, sender, stamp, number, State, addressed}
 use Rattle.definitions.specs.Setup.{setup-refusal}
 use Rattle.definitions.specs.History.{Event, sent, At, Before, Run, Item, run}
 use Rattle.world.specs.Runs.{on-states, started}

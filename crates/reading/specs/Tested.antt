@@ -8,14 +8,14 @@ use native.Mathlib.Omega.{arith}
 use lib.Dec.{eqb, ltb}
 use lib.ListN.{length, take, drop}
 use borrow.Author.Tests.{eq-eqb, ne-eqb, lt-ltb, le-ltb, eqb-true, ltb-true}
-use Rattle.definitions.specs.General.{pick, needs}
-use Rattle.base.specs.Refusals.{needs-none}
-use Rattle.definitions.specs.World.{size, encode, view}
+use Rattle.definitions.specs.General.{pick, needs, gives, refuses}
+use Rattle.base.specs.Refusals.{needs-none, reply-gives, reply-refuses}
+use Rattle.definitions.specs.World.{size, encode, view, is-process}
 use Rattle.world.specs.Layout.{encode-view}
 use Rattle.definitions.specs.Sound.{sound}
 use Rattle.world.specs.SoundLaws.{sound-facts, size-high, count-high, fifo-length-high, causal-length-high}
-use Rattle.definitions.specs.Steps.{read, refusal, accepted, step, after, is-process}
-use Rattle.definitions.specs.Words.{needs-world, gives, refuses, step-words, step-refusal, stepped-words, settle-words, settled-words, settle-reply, log-length, log-start, log-refusal, log-words, length-reply}
+use Rattle.definitions.specs.Steps.{read, refusal, accepted, step, after}
+use Rattle.definitions.specs.Words.{needs-world, step-words, step-refusal, stepped-words, settle-words, settled-words, settle-reply, log-length, log-start, log-refusal, log-words, length-reply}
 use Rattle.keeps.specs.Keeps.{SoundWords}
 
 -- ---- the world
@@ -104,18 +104,11 @@ unfolding length-reply log-refusal
 log-there w p log e h = rw (still-taken w (needs 5 (ltb p (view w size)) 0) e, lt-ltb p (view w size) h)
 
 -- ---- a log, by its length
-refuses-gives : {A : Type 0} (a : A) (n : ℕ) → refuses n ≡ gives a → ⊥
-refuses-gives a n e = let z : _≡_ {A = ℕ} 0 1 = cc in omega arith
-
 pub log-empty : (w : List ℕ) (p : ℕ) (log : Bool) (n : ℕ) → refuses n ≡ length-reply w p log
     → [] ≡ log-words w p log
 unfolding length-reply log-words
-log-empty w p log n e = go (eqb (log-refusal w p) 0) e
-  where
-    go : (b : Bool) → refuses n ≡ pick b (gives (log-length (view w) p log)) (refuses (log-refusal w p))
-        → [] ≡ pick b (take (log-length (view w) p log) (drop (log-start p log) w)) []
-    go true h = absurd (refuses-gives (log-length (view w) p log) n h)
-    go false h = refl
+log-empty w p log n e =
+    let z = reply-refuses n (log-refusal w p) (log-length (view w) p log) e in rw (ne-eqb (log-refusal w p) 0 (z .1))
 
 -- what a log that is there tells
 pub record Logged (w : List ℕ) (p : ℕ) (log : Bool) (n : ℕ) : Type 0 where
@@ -126,22 +119,17 @@ pub record Logged (w : List ℕ) (p : ℕ) (log : Bool) (n : ℕ) : Type 0 where
 
 pub logged : (w : List ℕ) (p : ℕ) (log : Bool) (n : ℕ) → gives n ≡ length-reply w p log → Logged w p log n
 unfolding length-reply log-words log-refusal
-logged w p log n e = go (eqb (log-refusal w p) 0) refl e
-  where
-    go : (b : Bool) → eqb (log-refusal w p) 0 ≡ b
-        → gives n ≡ pick b (gives (log-length (view w) p log)) (refuses (log-refusal w p)) → Logged w p log n
-    go true q h =
-        let z = needs-none 0 (eqb (length w) 20480) _ (eqb-true (log-refusal w p) 0 q) in
-        let y = needs-none 1 (sound (view w)) _ (z .1) in
-        let x = needs-none 4 (is-process (view w) p) 0 (y .1) in
-        let same : n ≡ log-length (view w) p log = cc in
-        record {
-          sound-there = world-sound w (eqb-true (length w) 20480 (z .0)) (y .0);
-          process-there = ltb-true p (view w size) (x .0);
-          items = same;
-          words = rw (q, same);
-        }
-    go false q h = absurd (refuses-gives n (log-refusal w p) (sym h))
+logged w p log n e =
+    let r = reply-gives (log-refusal w p) n (log-length (view w) p log) e in
+    let z = needs-none 0 (eqb (length w) 20480) _ (r .0) in
+    let y = needs-none 1 (sound (view w)) _ (z .1) in
+    let x = needs-none 4 (is-process (view w) p) 0 (y .1) in
+    record {
+      sound-there = world-sound w (eqb-true (length w) 20480 (z .0)) (y .0);
+      process-there = ltb-true p (view w size) (x .0);
+      items = r .1;
+      words = rw (r .0, r .1);
+    }
 
 -- it lies among the words
 pub log-inside : (w : List ℕ) (p : ℕ) (log : Bool) (n : ℕ) → Logged w p log n

@@ -1,10 +1,10 @@
 // Words that are lent as a world, tested; and the logs of a world read. Neither asks anything of its caller.
-use definitions::LogLength;
+use definitions::Amount;
 use definitions::Outcome;
 use definitions::Refusal;
 ghost use mathlib.Core.Path.{_≡_};
 ghost use Rattle.definitions.specs.Words.{needs-world, log-words, length-reply};
-ghost use Rattle.definitions.specs.Answers.{outcome-number, log-length-reply};
+ghost use Rattle.definitions.specs.Answers.{outcome-number, amount-reply};
 
 // Whether the words are a sound world: 1, then 2.
 pub fn tested(w: &[u16]) -> Outcome
@@ -20,23 +20,23 @@ pub fn tested(w: &[u16]) -> Outcome
 }
 
 // The length of the FIFO or the causal log of process p: 1, 2, then 5.
-pub fn log_length(w: &[u16], p: usize, causal: bool) -> LogLength
-    ensures { λ r. ⌜ log-length-reply r ≡ length-reply (now (w .entry)) p causal ⌝ }
+pub fn log_length(w: &[u16], p: usize, causal: bool) -> Amount
+    ensures { λ r. ⌜ amount-reply r ≡ length-reply (now (w .entry)) p causal ⌝ }
 {
     if let Outcome::Refused(r) = tested(w) {
-        return LogLength::Refused(r);
+        return Amount::Refused(r);
     }
     if cells::word(w, cells::SIZE) <= p {
-        return LogLength::Refused(Refusal::NoProcess);
+        return Amount::Refused(Refusal::NoProcess);
     }
-    LogLength::Items(logs::items(w, p, causal))
+    Amount::Is(logs::items(w, p, causal))
 }
 
 // The FIFO or the causal log of process p, as a part of the world; empty where it is refused.
 pub fn log(w: &[u16], p: usize, causal: bool) -> &[u16]
     ensures { λ r. ⌜ now r ≡ log-words (now (w .entry)) p causal ⌝ }
 {
-    let LogLength::Items(n) = log_length(w, p, causal) else {
+    let Amount::Is(n) = log_length(w, p, causal) else {
         return &w[0..0];
     };
     let at = logs::start(p, causal);

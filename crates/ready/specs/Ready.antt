@@ -13,9 +13,10 @@ use Rattle.definitions.specs.General.{bit, every, first-from, tally, absent, ch
 use Rattle.base.specs.Bits.{differs, bit-and, bit-xor, bit-mask-of, bit-mask-of-above}
 use Rattle.base.specs.Search.{every-true, every-intro, every-fails, every-cong, first-law, first-cong}
 use Rattle.base.specs.Count.{tally-past, tally-zero, tally-cong, tally-pos}
-use Rattle.definitions.specs.World.{size, count, trust, fifo-length, held, marks, fifo, sender, State, encode, view}
+use Rattle.definitions.specs.World.{size, count, trust, fifo-length, held, marks, fifo, sender, State, encode, view, addressed, outside-fifo}
 use Rattle.world.specs.Layout.{Reads, get-encode, reads-cell}
-use Rattle.definitions.specs.Machine.{addressed, addressees, in-turn, outside-fifo, marked, ready, fifo-one}
+use Rattle.definitions.specs.Sound.{addressee}
+use Rattle.definitions.specs.Machine.{addressees, in-turn, marked, ready, fifo-one}
 use Rattle.bounds.specs.Bounds.{Bounds, bounds-state}
 use Rattle.quiescence.specs.Quiescent.{Quiescent}
 use Rattle.quiescence.specs.Turn.{OneSender, OneSenderIf}
@@ -96,8 +97,7 @@ trusted-unmarked s p m = bitAnd (s (trust p)) (bitXor (s (trust p)) (s (marks p 
 
 -- whether the lowest of these is an addressee
 abbrev pub waits-lowest : State → ℕ → ℕ → Bool
-waits-lowest s p m =
-    let q = first-from 16 0 (bit (trusted-unmarked s p m)) in both (ltb q (s size)) (addressed s m q)
+waits-lowest s p m = addressee s m (first-from 16 0 (bit (trusted-unmarked s p m)))
 
 -- q is a trusted addressee of m of which p has no mark
 abbrev pub unmarked : State → ℕ → ℕ → ℕ → Bool
@@ -121,10 +121,8 @@ module _ (s : State) (p m : ℕ) where
 
   -- the lowest of them, as the code looks at it
   module _ {x q n : ℕ} (ex : x ≡ trusted-unmarked s p m) (eq : q ≡ first-from 16 0 (bit x)) (en : n ≡ s size) where
-    at : both (ltb q (s size)) (addressed s m q) ≡ waits-lowest s p m
-    at =
-        ap (λ (z : ℕ). both (ltb z (s size)) (addressed s m z))
-        (eq ∙ ap (λ (y : ℕ). first-from 16 0 (bit y)) ex)
+    at : addressee s m q ≡ waits-lowest s p m
+    at = ap (addressee s m) (eq ∙ ap (λ (y : ℕ). first-from 16 0 (bit y)) ex)
 
     pub waits-yes : {r : Bool} → q < n → r ≡ addressed s m q → r ≡ waits-lowest s p m
     waits-yes l er =

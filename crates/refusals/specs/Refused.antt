@@ -9,14 +9,13 @@ use lib.Pow.{pow-pos}
 use borrow.Author.Tests.{eq-eqb, ne-eqb, ltb-true, ltb-false}
 use Rattle.definitions.specs.General.{pick, bit, only, needs, or-else}
 use Rattle.base.specs.Tests.{both, both-l, both-r}
-use Rattle.definitions.specs.World.{size, count, State}
+use Rattle.definitions.specs.World.{size, count, State, has-group, is-process, is-message}
 use Rattle.base.specs.Refusals.{needs-none}
-use Rattle.definitions.specs.Steps.{has-group, good-mask, is-process, is-message, is-up, in-flight, refusal, multicasts, arrives, loses}
-use Rattle.definitions.specs.Answers.{refusal-number, outcome-number}
-use Rattle.definitions.specs.declared.Refusal.{Refusal}
-use Rattle.definitions.specs.declared.Refusal.the-variants.{WorldLength, WorldUnsound, BadSetup, Malformed, NoProcess, BadMask, NoMessage, BadTrust, Down, Full, NotInFlight, BothUp}
+use Rattle.definitions.specs.Steps.{good-mask, is-up, in-flight, refusal, multicasts, arrives, loses}
+use Rattle.definitions.specs.Answers.{outcome-number}
 use Rattle.definitions.specs.declared.Outcome.{Outcome}
-use Rattle.definitions.specs.declared.Outcome.the-variants.{Taken, Refused}
+use Rattle.definitions.specs.declared.Outcome.the-variants.{Taken}
+use Rattle.answers.specs.Laws.{taken-zero}
 use Rattle.bounds.specs.Bounds.{Bounds}
 
 -- the test fails, or passes and what follows decides
@@ -25,21 +24,6 @@ fails n rest e = rw e
 
 pub passes : (n : ℕ) {ok : Bool} {x : ℕ} (rest : ℕ) → ok ≡ true → x ≡ rest → x ≡ needs n ok rest
 passes n rest e h = rw e h
-
--- ---- a refusal has a number
-pub refusal-some : (r : Refusal) → refusal-number r ≡ 0 → ⊥
-refusal-some WorldLength e = omega arith
-refusal-some WorldUnsound e = omega arith
-refusal-some BadSetup e = omega arith
-refusal-some Malformed e = omega arith
-refusal-some NoProcess e = omega arith
-refusal-some BadMask e = omega arith
-refusal-some NoMessage e = omega arith
-refusal-some BadTrust e = omega arith
-refusal-some Down e = omega arith
-refusal-some Full e = omega arith
-refusal-some NotInFlight e = omega arith
-refusal-some BothUp e = omega arith
 
 -- ---- both of two tests
 pub one-fails : {a : Bool} (b : Bool) → a ≡ false → both a b ≡ false
@@ -90,24 +74,7 @@ below-power x n = go (ltb x (2 ^ n)) refl
         (pow-pos n) .1 (rw (one-mul (2 ^ n)) (ltb-false x (2 ^ n) e)) in
         ne-eqb (x / 2 ^ n) 0 (λ z. omega arith)
 
--- ---- tests in front of others
--- where they refuse, they refuse whatever comes after
-pub front-refused : {o : Outcome} {first : ℕ} (rest : ℕ) (r : Refusal) → o ≡ Refused r → outcome-number o ≡ first
-    → refusal-number r ≡ or-else first rest
-front-refused {o} {first} rest r t h =
-    let e : refusal-number r ≡ first = ap outcome-number (sym t) ∙ h in
-    e ∙ sym (ap (λ (b : Bool). pick b rest first) (ne-eqb first 0 (λ z. refusal-some r (e ∙ z))))
-
--- where they do not, what comes after decides
-pub none-first : {o : Outcome} {first : ℕ} → o ≡ Taken → outcome-number o ≡ first → first ≡ 0
-none-first t h = sym (ap outcome-number (sym t) ∙ h)
-
-pub front-taken : {o : Outcome} {first x : ℕ} (rest : ℕ) → o ≡ Taken → outcome-number o ≡ first → x ≡ rest
-    → x ≡ or-else first rest
-front-taken {o} {first} rest t h e =
-    e ∙ sym (ap (λ (b : Bool). pick b rest first) (eq-eqb first 0 (none-first t h)))
-
--- three tests in front
+-- ---- three tests in front of others
 stays : (n rest : ℕ) → or-else (suc n) rest ≡ suc n
 stays n rest = ap (λ (b : Bool). pick b rest (suc n)) (ne-eqb (suc n) 0 (λ z. omega arith))
 
@@ -140,7 +107,7 @@ pub operands-low : (s : State) (k m q p : ℕ) {o : Outcome} → Bounds s → o 
     → outcome-number o ≡ operands-refusal s k m q p
     → (k < 3) × (m < 64) × (q < 16) × (p < 16)
 operands-low s k m q p h t e =
-    let a = needs-none 3 (ltb k 3) _ (none-first t e) in
+    let a = needs-none 3 (ltb k 3) _ (taken-zero t e) in
     let b = needs-none 4 (is-process s q && is-process s p) _ (a .1) in
     let x = ltb-true k 3 (a .0) in
     let y = ltb-true m (s count) (needs-none 6 (is-message s m) 0 (b .1) .0) in

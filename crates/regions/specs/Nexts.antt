@@ -13,8 +13,8 @@ use lib.Seq.{getD-set-same, getD-set-other}
 use borrow.Author.Tests.{eq-eqb, ne-eqb, lt-ltb}
 use Rattle.definitions.specs.General.{pick, every, tally}
 use Rattle.base.specs.Count.{tally-le}
-use Rattle.definitions.specs.World.{size, next, fifo-length, view}
-use Rattle.definitions.specs.Sound.{frame, process, word, logged-of, fit, fine}
+use Rattle.definitions.specs.World.{size, next, fifo-length, view, is-process}
+use Rattle.definitions.specs.Sound.{word, logged-of, fit, fine}
 use Rattle.regions.specs.Runs.{fine-run, run-of}
 use Rattle.regions.specs.Rows.{Block}
 
@@ -108,8 +108,8 @@ nexts-law w p n l t b en el c =
     let z : getD t q 0 + 1 ≡ 1 + tally (view w (fifo-length p)) (from-at w (3 + p * 429 + 301) q) =
     omega (arith, c .entries q h, ap (λ (k : ℕ). tally k (from-at w (3 + p * 429 + 301) q)) el) in
     ap₂ (λ (k y : ℕ). eqb (view w (next p q)) (pick (ltb q k) y 0)) en z
-    ∙ word-equal (process (frame (view w)) q) (view w (next p q))
+    ∙ word-equal (is-process (view w) q) (view w (next p q))
     (1 + tally (view w (fifo-length p)) (from-at w (3 + p * 429 + 301) q))
-    ∙ sym (ap (λ (a : Bool). word (a && process (frame (view w)) q) (view w (next p q))
+    ∙ sym (ap (λ (a : Bool). word (a && is-process (view w) q) (view w (next p q))
     (eqb (view w (next p q)) (1 + tally (view w (fifo-length p)) (from-at w (3 + p * 429 + 301) q))))
     (lt-ltb p (view w size) (b .here))))

@@ -10,8 +10,8 @@ use lib.ListN.{length, getD}
 use Rattle.definitions.specs.General.{pick, every, bit, only}
 use Rattle.base.specs.Tests.{both, both-l}
 use Rattle.base.specs.Search.{every-cong}
-use Rattle.definitions.specs.World.{State, size, held, marks, view}
-use Rattle.definitions.specs.Sound.{frame, message, addressee, word, fit, fine}
+use Rattle.definitions.specs.World.{State, size, held, marks, view, is-message}
+use Rattle.definitions.specs.Sound.{addressee, word, fit, fine}
 use Rattle.ranges.specs.Sets.{subset-only}
 use Rattle.limits.specs.Addressees.{Addressees, addressees-of, addressee-bit}
 use Rattle.regions.specs.Runs.{fine-run, run-of, every-both}
@@ -31,18 +31,18 @@ abbrev pub rows-fine : State → ℕ → Bool
 rows-fine s p = fine-run s (3 + p * 429 + 173) 64 && fine-run s (3 + p * 429 + 237) 64
 
 -- the addressees of a message, as the test of a mask
-pub addressees-only : (s : State) (m x : ℕ) → x < 2 ^ 16 → message (frame s) m ≡ true
-    → eqb (bitAnd x (addressees-of s m)) x ≡ only 16 x (addressee (frame s) m)
+pub addressees-only : (s : State) (m x : ℕ) → x < 2 ^ 16 → is-message s m ≡ true
+    → eqb (bitAnd x (addressees-of s m)) x ≡ only 16 x (addressee s m)
 addressees-only s m x l e =
-    subset-only 16 x (addressees-of s m) (addressee (frame s) m) l
-    (λ p _. addressee-bit s m p ∙ ap (λ (b : Bool). b && addressee (frame s) m p) e)
+    subset-only 16 x (addressees-of s m) (addressee s m) l
+    (λ p _. addressee-bit s m p ∙ ap (λ (b : Bool). b && addressee s m p) e)
 
 row-law : (s : State) (p m : ℕ) → s (marks p m) < 2 ^ 16
     → row-ok (s (held p m)) (s (marks p m)) (addressees-of s m) p ≡ (fine s (held p m) && fine s (marks p m))
 unfolding row-ok fine fit
 row-law s p m l =
     ap (λ (b : Bool). pick b (leb x 1 && eqb (bitAnd y to) y) (eqb x 0 && eqb y 0)) (addressee-bit s m p)
-    ∙ go (message (frame s) m && addressee (frame s) m p) refl
+    ∙ go (is-message s m && addressee s m p) refl
   where
     x : ℕ
     x = s (held p m)
@@ -53,12 +53,11 @@ row-law s p m l =
     to : ℕ
     to = addressees-of s m
 
-    go : (b : Bool) → (message (frame s) m && addressee (frame s) m p) ≡ b
+    go : (b : Bool) → (is-message s m && addressee s m p) ≡ b
         → pick b (leb x 1 && eqb (bitAnd y to) y) (eqb x 0 && eqb y 0)
-        ≡ (word b x (leb x 1) && word b y (only 16 y (addressee (frame s) m)))
+        ≡ (word b x (leb x 1) && word b y (only 16 y (addressee s m)))
     go true e =
-        ap (both (leb x 1)) (addressees-only s m y l
-        (both-l (message (frame s) m) (addressee (frame s) m p) e))
+        ap (both (leb x 1)) (addressees-only s m y l (both-l (is-message s m) (addressee s m p) e))
     go false e = refl
 
 -- the whole region

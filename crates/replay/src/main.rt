@@ -1,8 +1,8 @@
 // Reads a journal on standard input, replays it, and writes the numbers of steps and of refused steps, then a line for
 // each process; or the number of the journal's refusal.
+use definitions::Replaying;
 use libc::STDIN_FILENO;
 use libc::STDOUT_FILENO;
-use replaying::Replaying;
 ghost use mathlib.Core.Path.{_≡_};
 ghost use Prim.Native.Nat.{_<_};
 ghost use lib.ListN.{length};
@@ -84,13 +84,13 @@ fn print_refusal(number: u32) {
 
 // Replays a journal into the lent words and writes what came of it.
 fn run(w: &mut [u16], journal: &[u8]) {
-    let r = replaying::replay(w, journal);
-    let Replaying::Done(steps, refused) = r else {
-        print_refusal(replaying::number(r));
-        return;
-    };
-    print_counts(steps, refused);
-    print_processes(w);
+    match replaying::replay(w, journal) {
+        Replaying::Refused(r) => print_refusal(answers::number(r)),
+        Replaying::Done(steps, refused) => {
+            print_counts(steps, refused);
+            print_processes(w);
+        }
+    }
 }
 
 fn main() {

@@ -9,8 +9,7 @@ use native.Mathlib.Omega.{arith}
 use lib.ListN.{length, getD, take, drop, replicate, length-drop, length-replicate, take-append-drop, drop-of-length-le, replicate-append-replicate}
 use lib.Seq.{take-at, drop-at, drop-cons, drop-drop, getD-at, getD-append-add, length-take-le}
 use borrow.Author.Tests.{eq-eqb}
-use Rattle.definitions.specs.General.{filled}
-use Rattle.parts.specs.Parts.{Bytes}
+use Rattle.definitions.specs.General.{filled, Bytes}
 use Rattle.parts.specs.Laws.{zeros-are, replicate-zero}
 use Rattle.definitions.specs.Checksum.{checksum}
 use Rattle.checksum.specs.Laws.{checksum-front}

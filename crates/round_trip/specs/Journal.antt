@@ -10,12 +10,12 @@ use lib.Dec.{ltb, eqb}
 use lib.ListN.{length, getD, take, drop, length-append, length-drop, length-take, take-append-drop, drop-of-length-le, List·getD-eq-default}
 use lib.Seq.{take-all, take-at, drop-at, length-take-le, getD-drop, getD-take}
 use borrow.Author.Tests.{eq-eqb, ne-eqb, le-leb, ltb-true, ltb-false}
-use Rattle.definitions.specs.General.{needs}
+use Rattle.definitions.specs.General.{needs, Bytes}
 use Rattle.base.specs.Refusals.{needs-none, or-else-none}
-use Rattle.parts.specs.Parts.{Bytes}
 use Rattle.definitions.specs.Block.{block, count-of, records-in, right-count, block-refusal}
 use Rattle.block.specs.Laws.{length-block, count-small, count-full, taken, length-records-in}
 use Rattle.definitions.specs.Journal.{blocks-of, blocks-for, journal-of, right-records, write-refusal, written, right-length, blocks-refusal, journal-refusal, records-from, records-of, read-refusal, read-out}
+use Rattle.definitions.specs.Demand.{RoundTrip}
 use Rattle.journal.specs.Writing.{RightRecords, records-right, right-of}
 use Rattle.journal.specs.Reading.{accepted, whole-records}
 use Rattle.round_trip.specs.Block.{records-back, block-good, block-back}
@@ -91,7 +91,7 @@ journal-blocks rs e =
     record { whole = r .whole; enough = omega arith; needed = omega arith } in
     written-blocks (blocks-for (length rs)) 0 rs f (omega (arith, r .small))
 
--- Demand 2: "A journal written and read gives back its records."
+-- The records of the journal of some records are these.
 pub records-come-back : (rs : List ℕ) → right-records (length rs) ≡ true
     → (journal-refusal (journal-of rs) ≡ 0) × (records-of (journal-of rs) ≡ rs)
 unfolding journal-refusal right-length records-of
@@ -160,7 +160,7 @@ read-blocks (suc k) n j l h e =
     (z .1) in
     rw (parts .0, parts .1, one, ih) (take-append-drop 512 j)
 
--- Demand 2: "an accepted journal read and written gives back its bytes."
+-- The journal of the records of an accepted journal is this one.
 pub journal-comes-back : (j : List ℕ) → Bytes j → journal-refusal j ≡ 0
     → (right-records (length (records-of j)) ≡ true) × (journal-of (records-of j) ≡ j)
 unfolding records-of journal-of
@@ -231,3 +231,14 @@ read-write-taken j back out h e l =
     let size : length out ≡ 512 * blocks-for (length (records-of j)) =
     l ∙ sym (ap length (c .1)) ∙ journal-blocks (records-of j) (c .0) .2 in
     rw (r .1, c .0, eq-eqb (length out) (512 * blocks-for (length (records-of j))) size)
+
+-- Demand 2's round trip.
+pub round-trip : RoundTrip
+round-trip = record {
+  records-back = λ rs out back e l.
+      let taken = write-read-taken rs out back e l in
+      (taken, write-then-read rs out back e taken);
+  journal-back = λ j back out h e l.
+      let taken = read-write-taken j back out h e l in
+      (taken, read-then-write j back out h e taken);
+}

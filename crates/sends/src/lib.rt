@@ -4,9 +4,9 @@ ghost use Prim.Native.Nat.{_+_, _<_};
 ghost use lib.ListN.{length};
 ghost use lib.Bits.{bitAnd};
 ghost use Rattle.definitions.specs.General.{with, pick, some};
-ghost use Rattle.definitions.specs.Machine.{addressed, addressees, in-turn, due, send-ok, send-oks};
+ghost use Rattle.definitions.specs.World.{addressed, view, count};
+ghost use Rattle.definitions.specs.Machine.{addressees, in-turn, due, send-ok, send-oks};
 ghost use Rattle.world.specs.Layout.{Reads, Changes};
-ghost use Rattle.definitions.specs.World.{view, count};
 ghost use Rattle.sends.specs.Sends.{sent};
 ghost use Rattle.bounds.specs.Bounds.{Bounds};
 

@@ -4,7 +4,8 @@ use definitions::Settling;
 use letters::Letter;
 use letters::Place;
 ghost use mathlib.Core.Path.{_≡_};
-ghost use Rattle.definitions.specs.Words.{gives, settle-words};
+ghost use Rattle.definitions.specs.General.{gives};
+ghost use Rattle.definitions.specs.Words.{settle-words};
 ghost use Rattle.definitions.specs.Answers.{settling-reply};
 ghost use Rattle.keeps.specs.Keeps.{SoundWords};
 

@@ -8,8 +8,9 @@ use lib.Dec.{leb, eqb}
 use lib.ListN.{length}
 use borrow.Author.Tests.{eq-eqb, ne-eqb, le-leb, lt-leb, eqb-true, leb-true}
 use Rattle.base.specs.Tests.{both-l, both-r}
-use Rattle.definitions.specs.General.{every, some, byte}
-use Rattle.definitions.specs.Setup.{setup-bits, setup-group, setup-has, good-setup}
+use Rattle.definitions.specs.General.{every, byte}
+use Rattle.definitions.specs.World.{has-group}
+use Rattle.definitions.specs.Setup.{fresh, setup-bits, setup-group, made, good-setup}
 
 -- The group of process i.
 unfoldable pub group-in : ℕ → ℕ → ℕ
@@ -19,13 +20,9 @@ pub group-small : (bits i : ℕ) → group-in bits i < 8
 unfolding group-in
 group-small bits i = omega arith
 
--- Some process below n is of group g.
-unfoldable pub has-group : ℕ → ℕ → ℕ → Bool
-has-group bits n g = some n (λ p. eqb (group-in bits p) g)
-
 -- Group 0, or one behind a group that a process has.
 unfoldable pub follows : ℕ → ℕ → ℕ → Bool
-follows bits n p = eqb (group-in bits p) 0 || has-group bits n (group-in bits p - 1)
+follows bits n p = eqb (group-in bits p) 0 || has-group (fresh n (group-in bits)) (group-in bits p - 1)
 
 -- Every process's group does.
 unfoldable pub no-gap : ℕ → ℕ → Bool
@@ -34,8 +31,8 @@ no-gap bits n = every n (follows bits n)
 -- the same as the definitions of the world have it
 pub no-gap-is : (bytes : List ℕ)
     → no-gap (setup-bits bytes) (byte bytes 1)
-    ≡ every (byte bytes 1) (λ p. eqb (setup-group bytes p) 0 || setup-has bytes (setup-group bytes p - 1))
-unfolding no-gap follows has-group group-in setup-group setup-has
+    ≡ every (byte bytes 1) (λ p. eqb (setup-group bytes p) 0 || has-group (made bytes) (setup-group bytes p - 1))
+unfolding no-gap follows group-in setup-group made
 no-gap-is bytes = refl
 
 -- ---- the test of a setup record, behind its length and its first byte

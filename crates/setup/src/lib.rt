@@ -2,8 +2,9 @@
 ghost use mathlib.Core.Path.{_≡_};
 ghost use Prim.Native.Nat.{_+_, _*_, _≤_, _<_};
 ghost use lib.ListN.{length, getD};
-ghost use Rattle.definitions.specs.Setup.{setup-bits, good-setup};
-ghost use Rattle.setup.specs.Groups.{group-in, has-group, follows, no-gap};
+ghost use Rattle.definitions.specs.World.{has-group};
+ghost use Rattle.definitions.specs.Setup.{fresh, setup-bits, good-setup};
+ghost use Rattle.setup.specs.Groups.{group-in, follows, no-gap};
 
 // A byte as a number of 64 bits.
 fn wide(x: u8) -> u64
@@ -39,7 +40,7 @@ pub fn group_of(bits: u64, i: usize) -> u64
 // Whether some process below n is of group g.
 fn has(bits: u64, n: usize, g: u64) -> bool
     requires { ⌜ n ≤ 16 ⌝ }
-    ensures { λ r. ⌜ r ≡ has-group bits n g ⌝ }
+    ensures { λ r. ⌜ r ≡ has-group (fresh n (group-in bits)) g ⌝ }
 {
     let mut p: usize = 0;
     while p < n {

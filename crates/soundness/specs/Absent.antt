@@ -9,9 +9,9 @@ use lib.Dec.{eqb}
 use lib.ListN.{getD}
 use borrow.Author.Tests.{le-ltb}
 use Rattle.base.specs.Search.{every-cong}
-use Rattle.definitions.specs.World.{Cell, size, count, rule, group, trust, counter, sequence, next, delivered, up, fifo-length, causal-length, held, marks, fifo, causal, sender, mask, stamp, number, flight, order, unused, addr, cell-at, view}
+use Rattle.definitions.specs.World.{Cell, size, count, rule, group, trust, counter, sequence, next, delivered, up, fifo-length, causal-length, held, marks, fifo, causal, sender, mask, stamp, number, flight, order, unused, addr, cell-at, view, is-process, is-message}
 use Rattle.world.specs.Layout.{Within, addr-cell-at, within-cell-at}
-use Rattle.definitions.specs.Sound.{frame, process, message, word, fit, fine}
+use Rattle.definitions.specs.Sound.{word, fit, fine}
 use Rattle.ranges.specs.Ranges.{zeros-at}
 use Rattle.ranges.specs.Laws.{and-false}
 use Rattle.regions.specs.Runs.{fine-run}
@@ -38,10 +38,10 @@ zeros-run w a k fits h =
     ∙ sym (h (cell-at (a + i)) (within-cell-at (a + i) (omega arith)) (omega arith) (omega arith)))
 
 module _ (w : List ℕ) where
-  no-process : (p : ℕ) → view w size ≤ p → process (frame (view w)) p ≡ false
+  no-process : (p : ℕ) → view w size ≤ p → is-process (view w) p ≡ false
   no-process p l = le-ltb p (view w size) l
 
-  no-message : (m : ℕ) → view w count ≤ m → message (frame (view w)) m ≡ false
+  no-message : (m : ℕ) → view w count ≤ m → is-message (view w) m ≡ false
   no-message m l = le-ltb m (view w count) l
 
   -- a table of counters, and a row of them
@@ -71,9 +71,9 @@ module _ (w : List ℕ) where
   absent-process (up p) k lo hi = idle _ _ _ (no-process p (omega arith))
   absent-process (fifo-length p) k lo hi = idle _ _ _ (no-process p (omega arith))
   absent-process (causal-length p) k lo hi = idle _ _ _ (no-process p (omega arith))
-  absent-process (held p m) k lo hi = no-addressee (message (frame (view w)) m) _ _ _ _
+  absent-process (held p m) k lo hi = no-addressee (is-message (view w) m) _ _ _ _
       (no-process p (omega arith))
-  absent-process (marks p m) k lo hi = no-addressee (message (frame (view w)) m) _ _ _ _
+  absent-process (marks p m) k lo hi = no-addressee (is-message (view w) m) _ _ _ _
       (no-process p (omega arith))
   absent-process (fifo p i) k lo hi = idle _ _ _ (no-process p (omega arith))
   absent-process (causal p i) k lo hi = idle _ _ _ (no-process p (omega arith))

@@ -13,25 +13,15 @@ use Rattle.world.specs.Layout.{encode-view}
 use Rattle.world.specs.SoundLaws.{Sound, size-high, count-high}
 use Rattle.definitions.specs.Steps.{Step, multicasts, arrives, loses, trusts, crashes, refusal, step, after}
 use Rattle.world.specs.StepLaws.{accepted-multicast, accepted-arrival, accepted-loss, accepted-trust, accepted-crash}
-use Rattle.definitions.specs.Answers.{refusal-number, outcome-number}
+use Rattle.definitions.specs.Answers.{refusal-number}
 use Rattle.definitions.specs.declared.Refusal.{Refusal}
-use Rattle.definitions.specs.declared.Outcome.{Outcome}
-use Rattle.definitions.specs.declared.Outcome.the-variants.{Taken, Refused}
 use Rattle.quiescence.specs.Quiescent.{QuiescentIf, AllQuiescentIf, one-of-all}
 use Rattle.bounds.specs.Bounds.{Bounds, sound-bounds}
 use Rattle.given.specs.declared.Given.{Given}
 use Rattle.given.specs.Given.{step-of}
-use Rattle.refusals.specs.Refused.{refusal-some}
+use Rattle.answers.specs.Laws.{refusal-some}
 use Rattle.multicasts.specs.Raise.{Low}
 use Rattle.multicasts.specs.Multicast.{sound-low}
-
--- ---- the answer
-pub taken-zero : {o : Outcome} {n : ℕ} → Taken ≡ o → outcome-number o ≡ n → n ≡ 0
-taken-zero e h = sym (ap outcome-number e ∙ h)
-
-pub refused-number : {o : Outcome} {n : ℕ} (r : Refusal) → Refused r ≡ o → outcome-number o ≡ n
-    → refusal-number r ≡ n
-refused-number r e h = ap outcome-number e ∙ h
 
 -- ---- the words
 pub words-taken : (w : List ℕ) (x : Step) → refusal (view w) x ≡ 0

@@ -7,13 +7,13 @@ use Prim.Native.Nat.{ℕ}
 use lib.Dec.{eqb}
 use lib.ListN.{length}
 use borrow.Author.Tests.{ne-eqb}
-use Rattle.definitions.specs.General.{pick, needs}
+use Rattle.definitions.specs.General.{pick, needs, unless-refused}
 use Rattle.definitions.specs.World.{State, view}
 use Rattle.definitions.specs.Sound.{sound}
 use Rattle.definitions.specs.Steps.{Step, arrives, read, refusal, accepted, step, after}
 use Rattle.definitions.specs.Settle.{lowest, Settled, settle-from}
 use Rattle.world.specs.SettleLaws.{settle-related}
-use Rattle.definitions.specs.Words.{needs-world, unless-refused, making-refusal, made-words, step-words, step-refusal, stepped-words, settle-words, settled-words, on-words}
+use Rattle.definitions.specs.Words.{needs-world, making-refusal, made-words, step-words, step-refusal, stepped-words, settle-words, settled-words, on-words}
 use Rattle.definitions.specs.History.{Run, Item, given, settling, taken, tick, settles, act, run}
 
 -- ---- a refused call changes nothing

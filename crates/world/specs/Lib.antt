@@ -1,5 +1,6 @@
 pub mod Layout
 pub mod SoundLaws
+pub mod SetupLaws
 pub mod SettleLaws
 pub mod StepLaws
 pub mod Runs

@@ -10,8 +10,8 @@ use Rattle.base.specs.Tests.{both, both-l, both-r, both-i}
 use Rattle.base.specs.Refusals.{needs-none}
 use Rattle.definitions.specs.General.{first-from, bit}
 use Rattle.base.specs.Search.{first-law}
-use Rattle.definitions.specs.World.{size, count, up, flight, State}
-use Rattle.definitions.specs.Steps.{multicasts, arrives, loses, trusts, crashes, good-mask, is-process, is-message, is-up, in-flight, good-trust, refusal, accepted}
+use Rattle.definitions.specs.World.{size, count, up, flight, State, is-process, is-message}
+use Rattle.definitions.specs.Steps.{multicasts, arrives, loses, trusts, crashes, good-mask, is-up, in-flight, good-trust, refusal, accepted}
 use Rattle.definitions.specs.Settle.{Choice, letter, nothing, moves, receiver, origin, kind, movable, letter-of, lowest}
 
 -- ---- an accepted multicast of p

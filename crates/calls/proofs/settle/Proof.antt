@@ -1,9 +1,9 @@
 -- `calls::settle` meets its contract: 1, 2, else what settling a sound world gives. Assumes nothing.
-use mathlib.Core.Path.{_≡_, sym, ap, _∙_}
+use mathlib.Core.Path.{_≡_, _∙_}
 use Rattle.definitions.specs.Words.{needs-world}
-use Rattle.definitions.specs.Answers.{outcome-number, refusal-number}
+use Rattle.definitions.specs.Answers.{refusal-number}
 use Rattle.keeps.specs.Keeps.{taken-sound-words}
-use Rattle.refusals.specs.Refused.{refusal-some}
+use Rattle.answers.specs.Laws.{refusal-some, taken-zero, refused-number}
 use Rattle.reading.specs.Tested.{settle-refused, settle-taken}
 use borrow.Author.Needs.{needs}
 use Rattle.calls.proofs.settle.Statement.{statement}
@@ -24,7 +24,7 @@ returns c =
     let a = t .before .before .before .args in
     let r = c .before .r .given .0 .0 in
     settle-refused (a .w .now) (a .budget) (refusal-number r) (refusal-some r)
-    (ap outcome-number (sym (c .before .r .given .1)) ∙ t .tested .ensures)
+    (refused-number (c .before .r .given .1) (t .tested .ensures))
 
 enum-told : tie.Need-enum-told
 enum-told c = search needs
@@ -32,7 +32,7 @@ enum-told c = search needs
 -- the world is taken
 taken : (c : tie.After-enum-told)
     → needs-world (c .before .before .before .before .before .args .w .now) 0 ≡ 0
-taken c = sym (ap outcome-number (sym (c .enum-told .given .1)) ∙ c .before .before .tested .ensures)
+taken c = taken-zero (c .enum-told .given .1) (c .before .before .tested .ensures)
 
 settle-sound-requires : tie.Need-settle-sound-requires
 settle-sound-requires c κs = taken-sound-words _ (taken (c .before))

@@ -1,9 +1,9 @@
 -- `calls::step` meets its contract: 1, 2, else what a step of a sound world gives. Assumes nothing.
-use mathlib.Core.Path.{_≡_, sym, ap, _∙_}
+use mathlib.Core.Path.{_≡_}
 use Rattle.definitions.specs.Words.{needs-world}
-use Rattle.definitions.specs.Answers.{outcome-number, refusal-number}
+use Rattle.definitions.specs.Answers.{refusal-number}
 use Rattle.keeps.specs.Keeps.{SoundWords, taken-sound-words}
-use Rattle.refusals.specs.Refused.{refusal-some}
+use Rattle.answers.specs.Laws.{refusal-some, taken-zero, refused-number}
 use Rattle.reading.specs.Tested.{step-refused, step-taken}
 use borrow.Author.Needs.{needs}
 use Rattle.calls.proofs.step.Statement.{statement}
@@ -24,7 +24,7 @@ returns c =
     let a = t .before .before .before .before .args in
     let r = c .before .r .given .0 .0 in
     step-refused (a .w .now) (a .bytes .now) (refusal-number r) (refusal-some r)
-    (ap outcome-number (sym (c .before .r .given .1)) ∙ t .tested .ensures)
+    (refused-number (c .before .r .given .1) (t .tested .ensures))
 
 enum-told : tie.Need-enum-told
 enum-told c = search needs
@@ -32,7 +32,7 @@ enum-told c = search needs
 -- the world is taken
 taken : (c : tie.After-enum-told)
     → needs-world (c .before .before .before .before .before .before .args .w .now) 0 ≡ 0
-taken c = sym (ap outcome-number (sym (c .enum-told .given .1)) ∙ c .before .before .tested .ensures)
+taken c = taken-zero (c .enum-told .given .1) (c .before .before .tested .ensures)
 
 held : (c : tie.After-enum-told) → SoundWords (c .before .before .before .before .before .before .args .w .now)
 held c = taken-sound-words (c .before .before .before .before .before .before .args .w .now) (taken c)

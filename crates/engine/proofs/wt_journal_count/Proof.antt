@@ -1,9 +1,10 @@
 -- `engine::wt_journal_count` meets its contract: each case of the answer has its number, and a number of records is small. Assumes nothing.
-use mathlib.Core.Path.{sym, ap, _∙_}
+use mathlib.Core.Path.{_≡_, refl, sym, ap, _∙_}
 use native.Mathlib.Omega.{arith}
-use Rattle.journal.specs.Answers.{of-counted}
+use Rattle.definitions.specs.General.{gives}
+use Rattle.definitions.specs.Answers.{amount-reply}
+use Rattle.definitions.specs.Journal.{count-reply}
 use Rattle.journal.specs.Reading.{counted-small}
-use Rattle.engine.specs.Values.{given-same}
 use borrow.Author.Needs.{needs}
 use Rattle.engine.proofs.wt_journal_count.Statement.{statement}
 use Rattle.engine.proofs.wt_journal_count.Tie as tie
@@ -14,40 +15,27 @@ count-requires c κs = search needs
 enum-known-n : tie.Need-enum-known-n
 enum-known-n c = search needs
 
+-- the number that was given
+replied : (c : tie.After-known-told)
+    → gives (c .before .n .given .0 .0) ≡ count-reply (c .before .before .before .before .before .args .journal .now)
+replied c = let n = c .before in ap amount-reply (sym (n .n .given .1)) ∙ n .before .before .count .ensures
+
 cast-count : tie.Need-cast-count
-cast-count c =
-    let n = c .before in
-    omega (
-      arith,
-      counted-small _ (n .n .given .0 .0)
-          (ap of-counted (sym (n .n .given .1)) ∙ n .before .before .count .ensures),
-    )
+cast-count c = omega (arith, counted-small _ _ (replied c))
 
-enum-told : tie.Need-enum-told
-enum-told c = search needs
+enum-known-r : tie.Need-enum-known-r
+enum-known-r c = search needs
 
-enum-told-2 : tie.Need-enum-told-2
-enum-told-2 c = search needs
-
-enum-told-3 : tie.Need-enum-told-3
-enum-told-3 c = search needs
+number-requires : tie.Need-number-requires
+number-requires c κs = search needs
 
 returns : tie.Need-returns
-returns c =
-    let n = c .before in
-    given-same _ _ _ (ap of-counted (sym (n .n .given .1)) ∙ n .before .before .count .ensures)
+returns c = rw (← replied c) (refl, refl)
 
 returns-2 : tie.Need-returns-2
 returns-2 c =
-    given-same _ _ _ (ap of-counted (sym (c .enum-told .given .1)) ∙ c .before .before .count .ensures)
-
-returns-3 : tie.Need-returns-3
-returns-3 c =
-    given-same _ _ _ (ap of-counted (sym (c .enum-told2 .given .1)) ∙ c .before .before .count .ensures)
-
-returns-4 : tie.Need-returns-4
-returns-4 c =
-    given-same _ _ _ (ap of-counted (sym (c .enum-told3 .given .1)) ∙ c .before .before .count .ensures)
+    let k = c .before .before in
+    rw (← (ap amount-reply (sym (k .r .given .1)) ∙ k .before .before .count .ensures)) (c .number .ensures, refl)
 
 pub wt-journal-count-spec : {M : Type 1} → statement M
 wt-journal-count-spec =
@@ -56,10 +44,7 @@ wt-journal-count-spec =
     count-requires
     enum-known-n
     cast-count
-    enum-told
-    enum-told-2
-    enum-told-3
+    enum-known-r
+    number-requires
     returns
-    returns-2
-    returns-3
-    returns-4)
+    returns-2)

@@ -1,7 +1,6 @@
 -- `engine::wt_settle` meets its contract: each case of the answer has its number and its values. Assumes nothing.
 use mathlib.Core.Path.{refl, sym, ap, _∙_}
 use Rattle.definitions.specs.Answers.{settling-reply}
-use Rattle.engine.specs.Values.{whole, arrivals-in, done-in}
 use borrow.Author.Needs.{needs}
 use Rattle.engine.proofs.wt_settle.Statement.{statement}
 use Rattle.engine.proofs.wt_settle.Tie as tie
@@ -27,9 +26,8 @@ same-length c = search needs
 returns : tie.Need-returns
 returns c =
     let s = c .before .before .before .before .before in
-    let a = s .before .before .before .args in
-    whole arrivals-in done-in (a .arrivals .now) (a .done .now) refl
-    (ap settling-reply (sym (c .before .n .given .1)) ∙ s .settle .ensures .0) (s .settle .ensures .1)
+    rw (← (ap settling-reply (sym (c .before .n .given .1)) ∙ s .settle .ensures .0))
+    (refl, (s .settle .ensures .1, (refl, refl)))
 
 same-length-2 : tie.Need-same-length-2
 same-length-2 c = search needs
@@ -37,9 +35,8 @@ same-length-2 c = search needs
 returns-2 : tie.Need-returns-2
 returns-2 c =
     let s = c .before .before .before .before .before in
-    let a = s .before .before .before .args in
-    whole arrivals-in done-in (a .arrivals .now) (a .done .now) refl
-    (ap settling-reply (sym (c .before .n2 .given .1)) ∙ s .settle .ensures .0) (s .settle .ensures .1)
+    rw (← (ap settling-reply (sym (c .before .n2 .given .1)) ∙ s .settle .ensures .0))
+    (refl, (s .settle .ensures .1, (refl, refl)))
 
 same-length-3 : tie.Need-same-length-3
 same-length-3 c = search needs
@@ -47,9 +44,8 @@ same-length-3 c = search needs
 returns-3 : tie.Need-returns-3
 returns-3 c =
     let s = c .before .before .before .before .before .before in
-    let a = s .before .before .before .args in
-    whole arrivals-in done-in (a .arrivals .now) (a .done .now) (c .number .ensures)
-    (ap settling-reply (sym (c .before .before .r .given .1)) ∙ s .settle .ensures .0) (s .settle .ensures .1)
+    rw (← (ap settling-reply (sym (c .before .before .r .given .1)) ∙ s .settle .ensures .0))
+    (c .number .ensures, (s .settle .ensures .1, (refl, refl)))
 
 pub wt-settle-spec : {M : Type 1} → statement M
 wt-settle-spec =

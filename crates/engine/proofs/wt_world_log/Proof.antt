@@ -1,11 +1,11 @@
 -- `engine::wt_world_log` meets its contract: a log that is there lies among the words. Assumes nothing.
-use mathlib.Core.Path.{_≡_, sym, ap, _∙_}
+use mathlib.Core.Path.{_≡_, refl, sym, ap, _∙_}
 use Prim.Native.Nat.{_+_, _≤_, _<_}
 use native.Mathlib.Omega.{arith}
-use Rattle.definitions.specs.Words.{gives, log-start, length-reply}
-use Rattle.definitions.specs.Answers.{log-length-reply}
+use Rattle.definitions.specs.General.{gives}
+use Rattle.definitions.specs.Words.{log-start, length-reply}
+use Rattle.definitions.specs.Answers.{amount-reply}
 use Rattle.reading.specs.Tested.{logged, log-inside}
-use Rattle.engine.specs.Values.{refusal-in, values-same}
 use borrow.Author.Needs.{needs}
 use Rattle.engine.proofs.wt_world_log.Statement.{statement}
 use Rattle.engine.proofs.wt_world_log.Tie as tie
@@ -23,7 +23,7 @@ replied : (c : tie.After-known-told)
     (c .before .before .before .before .before .args .p)
     (c .before .before .before .before .before .args .causal)
 replied c = let n =
-    c .before in ap log-length-reply (sym (n .n .given .1)) ∙ n .before .before .log-length .ensures
+    c .before in ap amount-reply (sym (n .n .given .1)) ∙ n .before .before .log-length .ensures
 
 inside : (c : tie.After-known-told)
     → (c .before .before .before .before .before .args .p < 16)
@@ -48,20 +48,13 @@ number-requires : tie.Need-number-requires
 number-requires c κs = search needs
 
 returns : tie.Need-returns
-returns c =
-    let a = c .before .before .before .before .before .before .args in
-    let e = replied (c .before) in
-    let v = values-same (λ _. log-start (a .p) (a .causal)) (λ n. n) (a .start .now) (a .items .now) e in
-    (ap refusal-in e, (c .start .ensures ∙ v .0, v .1))
+returns c = rw (← replied (c .before)) (refl, (c .start .ensures, refl))
 
 returns-2 : tie.Need-returns-2
 returns-2 c =
-    let a = c .before .before .before .before .before .before .args in
     let k = c .before .before in
-    let e = ap log-length-reply (sym (k .r .given .1)) ∙ k .before .before .log-length .ensures in (
-      c .number .ensures ∙ ap refusal-in e,
-      values-same (λ _. log-start (a .p) (a .causal)) (λ n. n) (a .start .now) (a .items .now) e,
-    )
+    rw (← (ap amount-reply (sym (k .r .given .1)) ∙ k .before .before .log-length .ensures))
+    (c .number .ensures, (refl, refl))
 
 pub wt-world-log-spec : {M : Type 1} → statement M
 wt-world-log-spec =

@@ -5,8 +5,8 @@ use Prim.Native.Nat.{ℕ, _-_, _≤_}
 use native.Mathlib.Omega.{arith}
 use lib.ListN.{getD-replicate, length-set}
 use Rattle.definitions.specs.General.{mask-of}
-use Rattle.definitions.specs.World.{view, mask}
-use Rattle.limits.specs.Addressees.{Partly, partly-none, partly-more, partly-all, group-bit, group-low}
+use Rattle.definitions.specs.World.{view, mask, addressed}
+use Rattle.limits.specs.Addressees.{Partly, partly-none, partly-more, partly-all, group-low}
 use Rattle.limits.specs.Members.{joined-all}
 use borrow.Author.Needs.{needs}
 use Rattle.limits.proofs.addressees.Statement.{statement}
@@ -67,7 +67,7 @@ loop-again c =
     let e = joined-all v (s .args .n) (v (mask (l .m))) (c .addressed .result) (of .result) (z .high)
     (λ p h. group-low v (s .pre .1) p (omega (arith, z .size-is))) (omega arith) (of .ensures)
     (c .addressed .ensures)
-    ∙ ap (λ (k : ℕ). mask-of k (group-bit v (v (mask (l .m))))) (z .size-is) in (
+    ∙ ap (λ (k : ℕ). mask-of k (addressed v (l .m))) (z .size-is) in (
       omega arith,
       partly-more v (l .m) (c .addressed .result) (l .t) _ refl (simp length-set (l .inv .1 .long))
           (omega (arith, z .few)) e (l .inv .1),

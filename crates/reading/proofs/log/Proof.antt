@@ -4,7 +4,7 @@ use Prim.Native.Nat.{ℕ, _+_, _-_, _≤_, _<_}
 use Rattle.definitions.specs.Words.{log-start}
 use native.Mathlib.Omega.{arith}
 use lib.ListN.{take, drop}
-use Rattle.definitions.specs.Answers.{log-length-reply}
+use Rattle.definitions.specs.Answers.{amount-reply}
 use Rattle.reading.specs.Tested.{log-empty, Logged, logged, log-inside}
 use borrow.Author.Needs.{needs}
 use Rattle.reading.proofs.log.Statement.{statement}
@@ -34,7 +34,7 @@ returns c =
     let l = e .before .before in
     let a = l .before .before .args in
     log-empty (a .w .now) (a .p) (a .causal) _
-    (ap log-length-reply (sym (e .enum-told .given .1)) ∙ l .log-length .ensures)
+    (ap amount-reply (sym (e .enum-told .given .1)) ∙ l .log-length .ensures)
 
 -- the log is there, and lies among the words
 there : (c : tie.After-known-told)
@@ -44,7 +44,7 @@ there : (c : tie.After-known-told)
 there c =
     let n = c .before in
     logged _ _ _ (n .n .given .0 .0)
-    (ap log-length-reply (sym (n .n .given .1)) ∙ n .before .before .log-length .ensures)
+    (ap amount-reply (sym (n .n .given .1)) ∙ n .before .before .log-length .ensures)
 
 inside : (c : tie.After-known-told)
     → (c .before .before .before .before .before .args .p < 16)

@@ -1,12 +1,13 @@
 -- `reading::log_length` meets its contract: 1, 2, then 5, else the length. Assumes nothing.
-use mathlib.Core.Path.{_≡_, sym, ap, _∙_}
+use mathlib.Core.Path.{_≡_, ap, _∙_}
 use Prim.Native.Nat.{ℕ}
 use native.Mathlib.Omega.{arith}
 use Rattle.world.specs.SoundLaws.{size-high}
-use Rattle.definitions.specs.Words.{needs-world, gives}
-use Rattle.definitions.specs.Answers.{outcome-number, refusal-number}
+use Rattle.definitions.specs.Words.{needs-world}
+use Rattle.definitions.specs.General.{gives}
+use Rattle.definitions.specs.Answers.{refusal-number}
 use Rattle.keeps.specs.Keeps.{SoundWords, taken-sound-words}
-use Rattle.refusals.specs.Refused.{refusal-some}
+use Rattle.answers.specs.Laws.{refusal-some, taken-zero, refused-number}
 use Rattle.reading.specs.Tested.{log-refused, log-absent, log-there}
 use borrow.Author.Needs.{needs}
 use Rattle.reading.proofs.log_length.Statement.{statement}
@@ -23,14 +24,14 @@ returns c =
     let t = c .before .before .before in
     let r = c .before .r .given .0 .0 in
     log-refused _ _ _ (refusal-number r) (refusal-some r)
-    (ap outcome-number (sym (c .before .r .given .1)) ∙ t .tested .ensures)
+    (refused-number (c .before .r .given .1) (t .tested .ensures))
 
 enum-told : tie.Need-enum-told
 enum-told c = search needs
 
 -- the world is taken, so it is sound
 taken : (c : tie.After-enum-told) → needs-world (c .before .before .before .before .args .w .now) 0 ≡ 0
-taken c = sym (ap outcome-number (sym (c .enum-told .given .1)) ∙ c .before .before .tested .ensures)
+taken c = taken-zero (c .enum-told .given .1) (c .before .before .tested .ensures)
 
 sound : (c : tie.After-enum-told) → SoundWords (c .before .before .before .before .args .w .now)
 sound c = taken-sound-words _ (taken c)

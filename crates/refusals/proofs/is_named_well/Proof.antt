@@ -2,8 +2,7 @@
 use mathlib.Core.Path.{sym, ap, _∙_}
 use mathlib.Core.Bool.{Bool, not, _||_}
 use borrow.Author.Tests.{not-true, not-false}
-use Rattle.definitions.specs.World.{view}
-use Rattle.definitions.specs.Steps.{has-group}
+use Rattle.definitions.specs.World.{view, has-group}
 use borrow.Author.Needs.{needs}
 use Rattle.refusals.proofs.is_named_well.Statement.{statement}
 use Rattle.refusals.proofs.is_named_well.Tie as tie

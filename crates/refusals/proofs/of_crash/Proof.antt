@@ -3,8 +3,8 @@ use mathlib.Core.Path.{_≡_, refl, sym, _∙_}
 use mathlib.Core.Bool.{true}
 use native.Mathlib.Omega.{arith}
 use borrow.Author.Tests.{lt-ltb, le-ltb, not-true, not-false}
-use Rattle.definitions.specs.World.{size, view}
-use Rattle.definitions.specs.Steps.{is-process, refusal}
+use Rattle.definitions.specs.World.{size, view, is-process}
+use Rattle.definitions.specs.Steps.{refusal}
 use Rattle.refusals.specs.Refused.{fails, passes}
 use borrow.Author.Needs.{needs}
 use Rattle.refusals.proofs.of_crash.Statement.{statement}

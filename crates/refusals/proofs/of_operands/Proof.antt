@@ -4,8 +4,7 @@ use mathlib.Core.Bool.{true, _&&_}
 use native.Mathlib.Omega.{arith}
 use lib.Dec.{ltb}
 use borrow.Author.Tests.{lt-ltb, le-ltb}
-use Rattle.definitions.specs.World.{size, count, view}
-use Rattle.definitions.specs.Steps.{is-process}
+use Rattle.definitions.specs.World.{size, count, view, is-process}
 use Rattle.refusals.specs.Refused.{fails, passes, one-fails, other-fails, both-pass}
 use borrow.Author.Needs.{needs}
 use Rattle.refusals.proofs.of_operands.Statement.{statement}

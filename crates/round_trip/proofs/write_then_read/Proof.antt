@@ -1,12 +1,9 @@
 -- `round_trip::write_then_read` meets its contract, by what the two calls ensure alone. Assumes nothing.
 use mathlib.Core.Path.{_≡_, refl, sym, ap, _∙_}
-use mathlib.Core.Bool.{true}
 use mathlib.Core.List.{List}
 use Prim.Native.Nat.{ℕ}
-use lib.Dec.{eqb}
 use lib.ListN.{length}
-use borrow.Author.Tests.{not-true, not-false}
-use Rattle.definitions.specs.Journal.{write-refusal, written, read-refusal, read-out}
+use Rattle.definitions.specs.Journal.{write-refusal, read-refusal, read-out}
 use Rattle.round_trip.specs.Calls.{write-refused, written-read}
 use borrow.Author.Needs.{needs}
 use Rattle.round_trip.proofs.write_then_read.Statement.{statement}
@@ -15,34 +12,27 @@ use Rattle.round_trip.proofs.write_then_read.Tie as tie
 write-requires : tie.Need-write-requires
 write-requires c κs = search needs
 
-wrote-requires : tie.Need-wrote-requires
-wrote-requires c κs = search needs
+outcome-requires : tie.Need-outcome-requires
+outcome-requires c κs = search needs
 
 same-length : tie.Need-same-length
 same-length c = search needs
 
 -- the answer of writing, as the definition gives it
-answered : (c : tie.After-wrote)
-    → c .wrote .result ≡ eqb
-    (write-refusal
+answered : (c : tie.After-outcome)
+    → c .outcome .result ≡ write-refusal
     (length (c .before .before .before .before .before .before .before .before .args .records .now))
-    (length (c .before .before .before .before .before .before .before .before .args .out .now))) 0
-answered c = c .wrote .ensures ∙ ap (λ (x : ℕ). eqb x 0) (c .before .before .before .write .ensures .0)
+    (length (c .before .before .before .before .before .before .before .before .args .out .now))
+answered c = c .outcome .ensures ∙ c .before .before .before .write .ensures .0
 
 returns : tie.Need-returns
-returns c =
-    let k = c .before in
-    let a = k .before .before .before .before .before .before .before .before .args in (
-      write-refused (a .records .now) (a .out .now) (a .back .now)
-          (sym (answered k) ∙ not-true (k .wrote .result) (c .if1 .taken)),
-      refl,
-    )
+returns c = (write-refused _ _ _ (λ e. c .if1 .taken (answered (c .before) ∙ e)), refl)
 
 read-requires : tie.Need-read-requires
 read-requires c κs = search needs
 
-was-read-requires : tie.Need-was-read-requires
-was-read-requires c κs = search needs
+outcome-requires-2 : tie.Need-outcome-requires-2
+outcome-requires-2 c κs = search needs
 
 same-length-2 : tie.Need-same-length-2
 same-length-2 c = search needs
@@ -57,14 +47,10 @@ returns-2 c =
     let k = e .before in
     let w = k .before .before .before .write in
     let a = k .before .before .before .before .before .before .before .before .args in
-    let j = written (a .records .now) (a .out .now) in
-    let taken : eqb (write-refusal (length (a .records .now)) (length (a .out .now))) 0 ≡ true =
-    sym (answered k) ∙ not-false (k .wrote .result) (e .if1 .left) in
-    let same : c .was-read .result ≡ eqb (read-refusal j (length (a .back .now))) 0 =
-    c .was-read .ensures
-    ∙ ap (λ (x : ℕ). eqb x 0)
-    (r .read .ensures .0 ∙ ap (λ (x : List ℕ). read-refusal x (length (a .back .now))) (w .ensures .1)) in
-    let z = written-read (a .records .now) (a .out .now) (a .back .now) (c .was-read .result) taken same in
+    let z = written-read (a .records .now) (a .out .now) (a .back .now) (c .outcome2 .result)
+    (sym (answered k) ∙ e .if1 .left)
+    (c .outcome2 .ensures ∙ r .read .ensures .0
+    ∙ ap (λ (x : List ℕ). read-refusal x (length (a .back .now))) (w .ensures .1)) in
     (z .0, r .read .ensures .1 ∙ ap (λ (x : List ℕ). read-out x (a .back .now)) (w .ensures .1) ∙ z .1)
 
 pub write-then-read-spec : {M : Type 1} → statement M
@@ -72,11 +58,11 @@ write-then-read-spec =
     tie.close
     (tie.spec
     write-requires
-    wrote-requires
+    outcome-requires
     same-length
     returns
     read-requires
-    was-read-requires
+    outcome-requires-2
     same-length-2
     same-length-3
     returns-2)

@@ -4,8 +4,7 @@ use mathlib.Core.Path.{sym, subst}
 use Prim.Native.Nat.{ℕ, _<_}
 use native.Mathlib.Omega.{arith}
 use borrow.Author.Needs.{needs}
-use Rattle.definitions.specs.Machine.{addressed}
-use Rattle.definitions.specs.World.{view, size}
+use Rattle.definitions.specs.World.{addressed, view, size}
 use Rattle.sends.specs.Among.{Among, among-start, among-hit, among-more, among-past, among-end, without-less}
 use Rattle.sends.proofs.addressees_among.Statement.{statement}
 use Rattle.sends.proofs.addressees_among.Tie as tie

@@ -5,8 +5,7 @@ use Prim.Native.Nat.{ℕ, _-_, _≤_}
 use native.Mathlib.Omega.{arith}
 use borrow.Author.Needs.{needs}
 use Rattle.definitions.specs.General.{mask-of}
-use Rattle.definitions.specs.Machine.{addressed}
-use Rattle.definitions.specs.World.{view, size}
+use Rattle.definitions.specs.World.{addressed, view, size}
 use Rattle.sends.specs.Sends.{addressees-law, mask-of-more}
 use Rattle.sends.proofs.addressees_of.Statement.{statement}
 use Rattle.sends.proofs.addressees_of.Tie as tie

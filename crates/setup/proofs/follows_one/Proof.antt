@@ -2,7 +2,9 @@
 use mathlib.Core.Path.{sym, ap, _∙_}
 use Prim.Native.Nat.{ℕ, _-_}
 use borrow.Author.Tests.{eq-eqb, ne-eqb}
-use Rattle.setup.specs.Groups.{group-in, has-group, follows}
+use Rattle.definitions.specs.World.{has-group}
+use Rattle.definitions.specs.Setup.{fresh}
+use Rattle.setup.specs.Groups.{group-in, follows}
 use borrow.Author.Needs.{needs}
 use Rattle.setup.proofs.follows_one.Statement.{statement}
 use Rattle.setup.proofs.follows_one.Tie as tie
@@ -28,7 +30,7 @@ returns-2 c =
     let g = c .before .before in
     let a = g .before .args in
     rw (ne-eqb (group-in (a .bits) (a .p)) 0 (λ e. c .before .if1 .left (g .group-of .ensures ∙ e)))
-    (c .has .ensures ∙ ap (λ (x : ℕ). has-group (a .bits) (a .n) (x - 1)) (g .group-of .ensures))
+    (c .has .ensures ∙ ap (λ (x : ℕ). has-group (fresh (a .n) (group-in (a .bits))) (x - 1)) (g .group-of .ensures))
 
 pub follows-one-spec : {M : Type 1} → statement M
 follows-one-spec = tie.close (tie.spec group-of-requires returns sub-has has-requires returns-2)

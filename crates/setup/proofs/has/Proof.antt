@@ -8,7 +8,8 @@ use borrow.Author.Tests.{eq-eqb}
 use Rattle.definitions.specs.General.{every, some}
 use Rattle.base.specs.Search.{every-more, some-i}
 use Rattle.base.specs.Tests.{is-other}
-use Rattle.setup.specs.Groups.{group-in, has-group}
+use Rattle.world.specs.SetupLaws.{fresh-groups}
+use Rattle.setup.specs.Groups.{group-in}
 use Rattle.setup.proofs.has.Statement.{statement}
 use Rattle.setup.proofs.has.Tie as tie
 
@@ -26,11 +27,11 @@ group-of-requires : tie.Need-group-of-requires Inv-loop μ-loop
 group-of-requires c κs = omega arith
 
 returns : tie.Need-returns Inv-loop μ-loop
-unfolding has-group
 returns c =
     let l = c .before .before .before in
     let a = l .before .args in
-    sym (some-i (a .n) (λ i. eqb (group-in (a .bits) i) (a .g)) (l .loop .p) (omega arith)
+    sym (fresh-groups (a .n) (group-in (a .bits)) (a .g)
+    ∙ some-i (a .n) (λ i. eqb (group-in (a .bits) i) (a .g)) (l .loop .p) (omega arith)
     (eq-eqb _ _ (sym (c .before .group-of .ensures) ∙ c .if1 .taken)))
 
 add-p : tie.Need-add-p Inv-loop μ-loop
@@ -49,12 +50,12 @@ loop-again c =
     )
 
 returns-2 : tie.Need-returns-2 Inv-loop μ-loop
-unfolding has-group some
+unfolding some
 returns-2 c =
     let l = c .before .loop in
     let a = c .before .before .args in
     let e : l .p ≡ a .n = omega arith in
-    sym (ap not ((rw e at (l .inv .1))))
+    sym (fresh-groups (a .n) (group-in (a .bits)) (a .g) ∙ ap not (rw e at (l .inv .1)))
 
 pub has-spec : {M : Type 1} → statement M
 has-spec =

@@ -2,7 +2,8 @@
 use mathlib.Core.Path.{sym, ap, _∙_}
 use Rattle.definitions.specs.World.{encode, view}
 use Rattle.definitions.specs.Steps.{Step, read, refusal, step}
-use Rattle.stepping.specs.Stepping.{taken-zero, refused-number, words-taken, words-refused}
+use Rattle.answers.specs.Laws.{taken-zero, refused-number}
+use Rattle.stepping.specs.Stepping.{words-taken, words-refused}
 use borrow.Author.Needs.{needs}
 use Rattle.stepping.proofs.step.Statement.{statement}
 use Rattle.stepping.proofs.step.Tie as tie
@@ -24,7 +25,7 @@ act-requires c κs =
     let t = c .before in
     let j = t .before .before in
     let b = j .before .before .before .before .before in
-    (b .pre .0, b .pre .1, b .pre .2, taken-zero (sym (t .enum-told .given .1)) (j .judge .ensures))
+    (b .pre .0, b .pre .1, b .pre .2, taken-zero (t .enum-told .given .1) (j .judge .ensures))
 
 same-length : tie.Need-same-length
 same-length c = search needs
@@ -37,7 +38,7 @@ returns c =
     let b = g .before .before .before in
     let w = b .args .w .now in
     let bytes = b .args .bytes .now in
-    let e = refused-number (x .0 .0) (sym (x .1)) (j .judge .ensures) ∙ ap (refusal (view w)) (g .take .ensures) in
+    let e = refused-number (x .1) (j .judge .ensures) ∙ ap (refusal (view w)) (g .take .ensures) in
     (e, words-refused w (read bytes) (x .0 .0) (b .pre .0) e)
 
 same-length-2 : tie.Need-same-length-2
@@ -52,7 +53,7 @@ returns-2 c =
     let b = g .before .before .before in
     let w = b .args .w .now in
     let bytes = b .args .bytes .now in
-    let e = taken-zero (sym (t .enum-told .given .1)) (j .judge .ensures ∙ ap (refusal (view w)) (g .take .ensures)) in (
+    let e = taken-zero (t .enum-told .given .1) (j .judge .ensures ∙ ap (refusal (view w)) (g .take .ensures)) in (
       sym e,
       o .act .ensures ∙ ap (λ (x : Step). encode (step (view w) x)) (g .take .ensures)
           ∙ words-taken w (read bytes) e,
