@@ -13,19 +13,19 @@ use native.Mathlib.Decide.{ℕ-discrete}
 use lib.Dec.{eqb}
 use borrow.Author.Tests.{eqb-true, eq-eqb}
 use Rattle.definitions.specs.General.{pick, tally, in-at, bit}
-use Rattle.base.specs.Tests.{bool-cases, clash, strong, pick-yes, both, both-i, eqb-refl}
-use Rattle.base.specs.Count.{tally-cong}
 use Rattle.definitions.specs.World.{size, count, group, up, next, marks, sender, mask, stamp, number, flight, State, addressed}
-use Rattle.world.specs.SoundLaws.{next-is}
 use Rattle.definitions.specs.Steps.{is-up}
 use Rattle.definitions.specs.History.{Run, Fair}
+use Rattle.base.specs.Tests.{bool-cases, clash, strong, pick-yes, both, both-i, eqb-refl}
+use Rattle.base.specs.Count.{tally-cong}
+use Rattle.world.specs.SoundLaws.{next-is}
 use Rattle.effects.specs.Views.{Messages, messages, place}
+use Rattle.effects.specs.Cascade.{Near}
+use Rattle.effects.specs.Arrival.{Held, Fly}
 use Rattle.order.specs.Knowledge.{Knowledge, knowledge}
 use Rattle.order.specs.Counters.{To, of-to, of, to, both-less, Counting, sender-before, stamp-lt}
 use Rattle.order.specs.Runs.{Whole}
 use Rattle.order.specs.Cascade.{Fifo}
-use Rattle.effects.specs.Cascade.{Near}
-use Rattle.effects.specs.Arrival.{Held, Fly}
 use Rattle.agreement.specs.Letters.{Mark, Down, Told, is-done, from-down, to-down, flies}
 use Rattle.agreement.specs.Turns.{Vouched, vouched, Pending, delivered, not-in-turn, unmarked, Live}
 

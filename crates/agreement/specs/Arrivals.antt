@@ -11,24 +11,24 @@ use native.Mathlib.Omega.{arith}
 use lib.Dec.{eqb}
 use borrow.Author.Tests.{eqb-false, ltb-true}
 use Rattle.definitions.specs.General.{pick, In, in-at, bit, with}
-use Rattle.base.specs.Bits.{with-old, with-hit, with-cases, bit-mask-of}
 use Rattle.definitions.specs.World.{size, count, group, trust, up, fifo-length, next, held, marks, fifo, sender, mask, stamp, number, flight, State, put, addressed}
+use Rattle.definitions.specs.Machine.{with-tables, addressees, in-turn, raised, stamped, numbered, multicast, leave, mark, received, posted as post}
+use Rattle.definitions.specs.History.{Event}
+use Rattle.base.specs.Bits.{with-old, with-hit, with-cases, bit-mask-of}
 use Rattle.world.specs.Layout.{put-same, put-at}
 use Rattle.world.specs.SoundLaws.{Sound, size-high, letter-facts, held-facts, mark-facts, sender-low, fifo-addressed}
-use Rattle.definitions.specs.Machine.{with-tables, addressees, in-turn, raised, stamped, numbered, multicast, leave, mark, received, posted as post}
 use Rattle.world.specs.StepLaws.{InFlight}
-use Rattle.definitions.specs.History.{Event}
 use Rattle.world.specs.Kept.{mark-cases, hold-cases}
 use Rattle.effects.specs.Views.{messages, Process, process, Ground}
 use Rattle.effects.specs.Arrival.{Held, Fly, put-letter, leave-cases, marked-held, marked-flight, mark-process, mark-ground, received-process, received-ground, received-held}
 use Rattle.effects.specs.Holding.{sound-letter}
 use Rattle.effects.specs.Spent.{once-then, leave-once, mark-once, hold-once, multicast-once, marked-low}
+use Rattle.effects.specs.Cascade.{Near}
 use Rattle.order.specs.Knowledge.{knowledge}
 use Rattle.order.specs.Counters.{OneMore, old-or-new}
 use Rattle.order.specs.Logs.{FifoLogOf}
 use Rattle.order.specs.Cascade.{MeaningOf}
 use Rattle.order.specs.Multicast.{one-more}
-use Rattle.effects.specs.Cascade.{Near}
 use Rattle.agreement.specs.Letters.{Mark, Down, Told, is-done, from-down, to-down, flies, Net, Flown, still, landed, lost-from, lost-to, ToAll, Progress, net-progress}
 
 -- ---- marks when a letter arrives

@@ -12,15 +12,15 @@ use native.Mathlib.Nat.{not-suc-le-zero}
 use borrow.Author.Tests.{ltb-true}
 use Rattle.definitions.specs.General.{pick, In, in-at, bit}
 use Rattle.definitions.specs.World.{size, count, group, trust, up, causal-length, fifo-length, next, held, marks, fifo, mask, State, put}
-use Rattle.world.specs.Layout.{put-other}
-use Rattle.world.specs.SoundLaws.{size-high, held-facts}
 use Rattle.definitions.specs.Setup.{fresh, made}
 use Rattle.definitions.specs.Machine.{with-tables, cascade, raised, stamped, numbered, posted, multicast, leave, received, arrival, trust-set, crash}
 use Rattle.definitions.specs.Steps.{Step, multicasts, arrives, loses, trusts, crashes, malformed, read, accepted, step}
-use Rattle.world.specs.StepLaws.{accepted-multicast, accepted-arrival, accepted-trust, lowest-moves, moves-taken}
 use Rattle.definitions.specs.Settle.{lowest}
-use Rattle.world.specs.SettleLaws.{settle-keeps}
 use Rattle.definitions.specs.History.{Event, Run, Item, given, settling, taken, tick, settles, act, run, InForce, AllAlong}
+use Rattle.world.specs.Layout.{put-other}
+use Rattle.world.specs.SoundLaws.{size-high, held-facts}
+use Rattle.world.specs.StepLaws.{accepted-multicast, accepted-arrival, accepted-trust, lowest-moves, moves-taken}
+use Rattle.world.specs.SettleLaws.{settle-keeps}
 use Rattle.world.specs.Runs.{on-states}
 use Rattle.world.specs.Local.{received-local}
 use Rattle.effects.specs.Views.{place-local, messages, Process, process, Ground, ground, Still, place}

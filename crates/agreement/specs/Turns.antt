@@ -10,22 +10,22 @@ use Prim.Native.Nat.{ℕ, _-_, _≤_, _<_}
 use native.Mathlib.Omega.{arith}
 use native.Mathlib.Decide.{ℕ-discrete}
 use borrow.Author.Tests.{eq-eqb, not-true}
-use Rattle.base.specs.Tests.{le-or-lt, clash, both, both-l, both-r, both-i, either, either-e, at-or-off}
-use Rattle.base.specs.Loop.{loop-keeps}
-use Rattle.base.specs.Search.{every-true, every-false}
 use Rattle.definitions.specs.General.{In, in-at, bit}
-use Rattle.base.specs.Count.{in-dec, out-absent}
 use Rattle.definitions.specs.World.{size, count, group, trust, up, fifo-length, next, held, marks, fifo, sender, mask, number, State, addressed}
 use Rattle.definitions.specs.Machine.{marked, ready, fifo-one, cascade}
 use Rattle.definitions.specs.History.{Event, Names, names}
+use Rattle.base.specs.Tests.{le-or-lt, clash, both, both-l, both-r, both-i, either, either-e, at-or-off}
+use Rattle.base.specs.Loop.{loop-keeps}
+use Rattle.base.specs.Search.{every-true, every-false}
+use Rattle.base.specs.Count.{in-dec, out-absent}
 use Rattle.world.specs.Fuel.{cascade-quiet}
 use Rattle.effects.specs.Views.{Process, Ground, ground, Still, Place, place-of, place, still as still-view}
 use Rattle.effects.specs.Cascade.{Near, turn-near, Front, fifo-one-front, next-cases, ok-sent, letter-cases, fifo-one-still, fifo-one-there}
 use Rattle.effects.specs.Holding.{HeldTo}
 use Rattle.effects.specs.Spent.{turn-once}
+use Rattle.effects.specs.Arrival.{Held, Fly}
 use Rattle.order.specs.Logs.{item-cases}
 use Rattle.order.specs.Cascade.{Fifo, MeaningOf, Ready, ready-facts, Cascading, cascading-more}
-use Rattle.effects.specs.Arrival.{Held, Fly}
 use Rattle.agreement.specs.Letters.{Mark, Net, still, ToAll, Progress, net-progress}
 use Rattle.agreement.specs.Arrivals.{in-addressees}
 

@@ -5,11 +5,11 @@ use mathlib.Core.List.{List}
 use Prim.Native.Nat.{ℕ}
 use lib.Dec.{eqb}
 use lib.ListN.{length}
-use Rattle.base.specs.Tests.{clash}
 use Rattle.definitions.specs.World.{held, State, put, encode, view}
+use Rattle.definitions.specs.Machine.{ready, leave, mark, hold, received, arrival}
+use Rattle.base.specs.Tests.{clash}
 use Rattle.world.specs.Layout.{Changes, encode-view, put-same}
 use Rattle.world.specs.Kept.{hold-cases}
-use Rattle.definitions.specs.Machine.{ready, leave, mark, hold, received, arrival}
 use Rattle.quiescence.specs.Quiescent.{Quiescent, QuiescentIf, MarkOnly, cascade-none, received-quiescent}
 use Rattle.receiving.specs.Receiving.{hold-held}
 

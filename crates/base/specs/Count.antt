@@ -9,8 +9,8 @@ use native.Mathlib.Nat.{not-suc-le-zero}
 use native.Mathlib.Decide.{ℕ-discrete}
 use lib.Dec.{ltb, eqb}
 use borrow.Author.Tests.{ltb-true, ltb-false, eqb-true, eq-eqb, not-true, not-false}
-use Rattle.base.specs.Tests.{bool-cases, clash, both, both-l, both-r, either, either-e, either-l, either-r, pick-le}
 use Rattle.definitions.specs.General.{pick, first-from, every, tally, In, in-at, absent}
+use Rattle.base.specs.Tests.{bool-cases, clash, both, both-l, both-r, either, either-e, either-l, either-r, pick-le}
 use Rattle.base.specs.Search.{Found, at, none, find, First, first-law, every-true, every-false, every-cong}
 
 -- ---- how many of 0, .., n - 1 pass

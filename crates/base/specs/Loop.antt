@@ -7,8 +7,8 @@ use Prim.Native.Nat.{ℕ, zero, suc, _≤_, _<_}
 use native.Mathlib.Omega.{arith}
 use lib.Dec.{ltb}
 use borrow.Author.Tests.{lt-ltb, le-ltb, ltb-true, ltb-false}
-use Rattle.base.specs.Tests.{bool-cases}
 use Rattle.definitions.specs.General.{first-from, chosen, loop}
+use Rattle.base.specs.Tests.{bool-cases}
 use Rattle.base.specs.Search.{first-law, first-cong}
 
 module _ {S : Type 0} (bound : S → ℕ) (test : S → ℕ → Bool) (act : S → ℕ → S) where

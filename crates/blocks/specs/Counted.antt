@@ -8,11 +8,11 @@ use native.Mathlib.Omega.{arith}
 use lib.Dec.{leb}
 use lib.ListN.{getD}
 use borrow.Author.Tests.{lt-ltb, le-ltb}
-use Rattle.base.specs.Tests.{both}
 use Rattle.definitions.specs.General.{pick}
 use Rattle.definitions.specs.World.{Cell, State, count, addr, view, is-process, has-group}
-use Rattle.world.specs.Layout.{Within}
 use Rattle.definitions.specs.Sound.{word, fine}
+use Rattle.base.specs.Tests.{both}
+use Rattle.world.specs.Layout.{Within}
 use Rattle.ranges.specs.Ranges.{within-at}
 use Rattle.ranges.specs.Laws.{every-split}
 use Rattle.limits.specs.Limits.{exists-at, word-limit}

@@ -8,11 +8,11 @@ use native.Mathlib.Omega.{arith}
 use lib.Dec.{ltb, eqb}
 use lib.ListN.{getD, List·getD-eq-default}
 use borrow.Author.Tests.{lt-ltb, le-ltb, ltb-true, ltb-false, ne-eqb}
-use Rattle.base.specs.Tests.{both, pick-le}
 use Rattle.definitions.specs.General.{pick, every, absent, bit}
 use Rattle.definitions.specs.World.{Cell, State, size, count, fifo-length, causal-length, fifo, causal, addr, view, is-process, is-message}
-use Rattle.world.specs.Layout.{Within}
 use Rattle.definitions.specs.Sound.{addressee, word, item, fit, fine}
+use Rattle.base.specs.Tests.{both, pick-le}
+use Rattle.world.specs.Layout.{Within}
 use Rattle.ranges.specs.Ranges.{zeros-at, within-at}
 use Rattle.logtest.specs.Log.{log-at, low-at, Counts, Flags, item-ok, listed-at}
 use Rattle.logtest.specs.Laws.{log-test, counts-flags}

@@ -7,12 +7,12 @@ use native.Mathlib.Omega.{arith}
 use lib.Dec.{eqb}
 use lib.ListN.{getD}
 use borrow.Author.Tests.{lt-ltb, eq-eqb, eqb-true}
-use Rattle.base.specs.Tests.{both}
 use Rattle.definitions.specs.General.{every, bit, with, only}
-use Rattle.base.specs.Search.{every-true, every-intro}
-use Rattle.base.specs.Bits.{only-none}
 use Rattle.definitions.specs.World.{State, count, sender, mask, stamp, number, flight, order, view, is-message}
 use Rattle.definitions.specs.Sound.{addressee, sends, word, fit, fine}
+use Rattle.base.specs.Tests.{both}
+use Rattle.base.specs.Search.{every-true, every-intro}
+use Rattle.base.specs.Bits.{only-none}
 use Rattle.ranges.specs.Ranges.{zeros-at, within-at}
 use Rattle.limits.specs.Addressees.{addressees-of}
 use Rattle.regions.specs.Runs.{fine-run, run-of, run-one, run-join, run-cut}

@@ -6,10 +6,10 @@ use Prim.Native.Nat.{ℕ, _+_, _*_, _/_, _^_, _≤_, _<_}
 use native.Mathlib.Omega.{arith}
 use lib.Dec.{ltb, leb, eqb}
 use borrow.Author.Tests.{lt-ltb, ltb-true}
-use Rattle.base.specs.Tests.{both, both-l, both-r, both-i, same}
 use Rattle.definitions.specs.General.{every, absent, only}
 use Rattle.definitions.specs.World.{State, size, count, group, trust, counter, sequence, delivered, up, fifo-length, causal-length, fifo, view, is-process, is-message}
 use Rattle.definitions.specs.Sound.{addressee, word, item, fit, fine}
+use Rattle.base.specs.Tests.{both, both-l, both-r, both-i, same}
 use Rattle.world.specs.SoundLaws.{word-in, word-leb}
 use Rattle.ranges.specs.Ranges.{within-at}
 use Rattle.ranges.specs.Sets.{shift-only}

@@ -4,11 +4,11 @@
 use mathlib.Core.List.{List}
 use mathlib.Core.Logic.{inl, inr}
 use Prim.Native.Nat.{ℕ, _-_}
-use Rattle.base.specs.Tests.{clash}
-use Rattle.base.specs.Bits.{bit-zero}
 use Rattle.definitions.specs.World.{State}
 use Rattle.definitions.specs.Setup.{fresh, made}
 use Rattle.definitions.specs.History.{Run, Item, run}
+use Rattle.base.specs.Tests.{clash}
+use Rattle.base.specs.Bits.{bit-zero}
 use Rattle.world.specs.Runs.{on-states, started}
 use Rattle.effects.specs.Arrival.{Fly}
 use Rattle.effects.specs.Runs.{run-keeps}

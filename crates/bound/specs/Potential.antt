@@ -12,14 +12,14 @@ use native.Mathlib.Nat.{not-suc-le-zero}
 use native.Mathlib.Decide.{ℕ-discrete}
 use lib.Dec.{ltb, leb, eqb}
 use borrow.Author.Tests.{eqb-true, eq-eqb, ne-eqb, leb-true, le-leb, not-true}
-use Rattle.base.specs.Tests.{bool-cases, clash, pick-no, both, both-l, both-r, both-i}
 use Rattle.definitions.specs.General.{pick, tally, bit, without}
-use Rattle.base.specs.Bits.{without-hit}
 use Rattle.definitions.specs.World.{size, count, group, next, held, sender, number, flight, State, put, addressed}
-use Rattle.world.specs.Layout.{put-same}
-use Rattle.world.specs.SoundLaws.{Sound, size-high, count-high, letter-facts}
 use Rattle.definitions.specs.Sound.{addressee, sends}
 use Rattle.definitions.specs.Machine.{leave}
+use Rattle.base.specs.Tests.{bool-cases, clash, pick-no, both, both-l, both-r, both-i}
+use Rattle.base.specs.Bits.{without-hit}
+use Rattle.world.specs.Layout.{put-same}
+use Rattle.world.specs.SoundLaws.{Sound, size-high, count-high, letter-facts}
 use Rattle.effects.specs.Views.{Ground, ground}
 use Rattle.effects.specs.Arrival.{Fly}
 use Rattle.effects.specs.Spent.{SentBy, Spent, Once, spent-on}

@@ -7,14 +7,14 @@ use mathlib.Core.List.{List}
 use Prim.Native.Nat.{ℕ, zero, suc, _+_, _*_, _≤_, _<_}
 use native.Mathlib.Omega.{arith}
 use Rattle.definitions.specs.World.{count, State, put}
-use Rattle.world.specs.SoundLaws.{Sound}
 use Rattle.definitions.specs.Setup.{setup-refusal}
 use Rattle.definitions.specs.Machine.{leave, arrival}
 use Rattle.definitions.specs.Steps.{arrives, step}
-use Rattle.world.specs.StepLaws.{Moves, Chosen, lowest-chosen, moves-taken}
 use Rattle.definitions.specs.Settle.{Choice, letter, nothing, lowest, Ending, done, stopped, Settled, settle-from}
-use Rattle.world.specs.SettleLaws.{settle}
 use Rattle.definitions.specs.History.{Item, run}
+use Rattle.world.specs.SoundLaws.{Sound}
+use Rattle.world.specs.StepLaws.{Moves, Chosen, lowest-chosen, moves-taken}
+use Rattle.world.specs.SettleLaws.{settle}
 use Rattle.world.specs.Runs.{on-states, started}
 use Rattle.keeps.specs.Keeps.{fresh-sound, step-sound, run-sound}
 use Rattle.effects.specs.Views.{Ground}

@@ -8,8 +8,8 @@ use native.Mathlib.Omega.{arith}
 use lib.Dec.{ltb}
 use borrow.Author.Tests.{ltb-true}
 use Rattle.definitions.specs.General.{chosen, loop}
-use Rattle.base.specs.Loop.{loop-turn, loop-stops, loop-none}
 use Rattle.definitions.specs.World.{State, encode}
+use Rattle.base.specs.Loop.{loop-turn, loop-stops, loop-none}
 use Rattle.world.specs.Layout.{Changes}
 
 module _ (bound : State → ℕ) (test : State → ℕ → Bool) (act : State → ℕ → State) where

@@ -10,20 +10,20 @@ use lib.Dec.{ltb, eqb}
 use lib.ListN.{length, take, drop, getD}
 use borrow.Author.Tests.{ltb-true, eq-eqb, lt-ltb}
 use Rattle.definitions.specs.General.{pick, needs, first-from, some, bit, tabulate, In, in-at, Listed}
-use Rattle.base.specs.Tests.{both-l, both-r, clash}
-use Rattle.base.specs.Search.{first-law, first-cong, some-cong}
-use Rattle.base.specs.Bits.{only-cong}
 use Rattle.definitions.specs.World.{Cell, size, count, rule, group, trust, counter, sequence, next, delivered, up, fifo-length, causal-length, held, marks, fifo, causal, sender, mask, stamp, number, flight, order, unused, State, encode, view, addr, has-group, is-process}
-use Rattle.world.specs.Layout.{Within, length-encode, get-encode, encode-ext, part-encode}
-use Rattle.world.specs.SoundLaws.{Sound, size-high, count-high, group-high, sender-high, fifo-length-high, causal-length-high, fifo-high, sound-words, facts-sound}
 use Rattle.definitions.specs.Sound.{sound}
 use Rattle.definitions.specs.Setup.{setup-refusal, made}
 use Rattle.definitions.specs.Steps.{Step, multicasts, arrives, loses, trusts, crashes, malformed, read, good-mask, is-up, in-flight, refusal, accepted, step, after}
-use Rattle.world.specs.StepLaws.{accepted-multicast, accepted-arrival, accepted-loss, accepted-trust}
 use Rattle.definitions.specs.Settle.{Choice, letter, nothing, moves, receiver, origin, kind, movable, letter-of, lowest}
 use Rattle.definitions.specs.Words.{needs-world, making-refusal, made-words, step-refusal, stepped-words, log-length, log-start, log-refusal, log-words}
-use Rattle.carried.specs.Same.{Fits, Agree, same, process-low, message-low, leave-agree, arrival-agree, trust-agree, crash-agree, multicast-agree}
+use Rattle.base.specs.Tests.{both-l, both-r, clash}
+use Rattle.base.specs.Search.{first-law, first-cong, some-cong}
+use Rattle.base.specs.Bits.{only-cong}
 use Rattle.base.specs.Tabulate.{length-tabulate, getD-tabulate}
+use Rattle.world.specs.Layout.{Within, length-encode, get-encode, encode-ext, part-encode}
+use Rattle.world.specs.SoundLaws.{Sound, size-high, count-high, group-high, sender-high, fifo-length-high, causal-length-high, fifo-high, sound-words, facts-sound}
+use Rattle.world.specs.StepLaws.{accepted-multicast, accepted-arrival, accepted-loss, accepted-trust}
+use Rattle.carried.specs.Same.{Fits, Agree, same, process-low, message-low, leave-agree, arrival-agree, trust-agree, crash-agree, multicast-agree}
 
 -- ---- refusals
 needs-same : (n : ℕ) {b b′ : Bool} {x x′ : ℕ} → b ≡ b′ → (b ≡ true → x ≡ x′) → needs n b x ≡ needs n b′ x′

@@ -8,16 +8,16 @@ use native.Mathlib.Omega.{arith}
 use lib.Dec.{eqb}
 use lib.ListN.{length}
 use Rattle.definitions.specs.General.{pick, gives, reply}
-use Rattle.base.specs.Refusals.{needs-none}
 use Rattle.definitions.specs.World.{size, count, causal-length, causal, State, encode, view}
-use Rattle.world.specs.SoundLaws.{Sound, size-high}
 use Rattle.definitions.specs.Setup.{setup-refusal, made}
 use Rattle.definitions.specs.Steps.{Step, multicasts, arrives, loses, trusts, crashes, malformed, read, accepted, step}
-use Rattle.world.specs.StepLaws.{lowest-moves, moves-taken}
 use Rattle.definitions.specs.Settle.{lowest, Settled, settle-from}
-use Rattle.world.specs.SettleLaws.{settle, Alike, settle-related}
-use Rattle.definitions.specs.Words.{making-refusal, made-words, settle-words, settled-words, settle-reply, on-words, started-words}
 use Rattle.definitions.specs.History.{Event, sent, deliveries, grown, gained, casted, Engine, Run, Item, given, settling, taken, tick, settles, act, run}
+use Rattle.definitions.specs.Words.{making-refusal, made-words, settle-words, settled-words, settle-reply, on-words, started-words}
+use Rattle.base.specs.Refusals.{needs-none}
+use Rattle.world.specs.SoundLaws.{Sound, size-high}
+use Rattle.world.specs.StepLaws.{lowest-moves, moves-taken}
+use Rattle.world.specs.SettleLaws.{settle, Alike, settle-related}
 use Rattle.world.specs.Runs.{on-states, started}
 use Rattle.keeps.specs.Keeps.{step-sound, run-sound}
 use Rattle.effects.specs.Events.{deliveries-same}

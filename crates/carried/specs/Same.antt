@@ -8,13 +8,13 @@ use Prim.Native.Nat.{ℕ, zero, suc, _+_, _-_, _≤_, _<_, max}
 use native.Mathlib.Omega.{arith}
 use lib.Dec.{eqb}
 use Rattle.definitions.specs.General.{pick, every, loop, bit, with, without, mask-of}
+use Rattle.definitions.specs.World.{Cell, size, count, rule, group, trust, counter, sequence, next, delivered, up, fifo-length, causal-length, held, marks, fifo, causal, sender, mask, stamp, number, flight, order, unused, State, put, addressed, outside-causal}
+use Rattle.definitions.specs.Machine.{Tables, with-tables, addressees, in-turn, marked, ready, fits, deliverable, deliverable-at, merge, causal-one, causal-all, due, send-ok, send-oks, appended, raised-next, fifo-one, cascade, raised, stamped, numbered, posted, multicast, leave, mark, hold, arrival, trust-set, crash}
 use Rattle.base.specs.Search.{every-cong}
 use Rattle.base.specs.Loop.{loop-related}
 use Rattle.base.specs.Count.{absent-cong}
 use Rattle.base.specs.Bits.{mask-of-cong}
-use Rattle.definitions.specs.World.{Cell, size, count, rule, group, trust, counter, sequence, next, delivered, up, fifo-length, causal-length, held, marks, fifo, causal, sender, mask, stamp, number, flight, order, unused, State, put, addressed, outside-causal}
 use Rattle.world.specs.Layout.{Within, put-same, put-other, put-at}
-use Rattle.definitions.specs.Machine.{Tables, with-tables, addressees, in-turn, marked, ready, fits, deliverable, deliverable-at, merge, causal-one, causal-all, due, send-ok, send-oks, appended, raised-next, fifo-one, cascade, raised, stamped, numbered, posted, multicast, leave, mark, hold, arrival, trust-set, crash}
 use Rattle.effects.specs.Views.{Process}
 use Rattle.effects.specs.Cascade.{Front, causal-delivered, causal-one-here, fifo-one-front}
 

@@ -9,11 +9,11 @@ use native.Mathlib.Omega.{arith}
 use lib.ListN.{set}
 use Rattle.definitions.specs.General.{loop}
 use Rattle.definitions.specs.World.{count, next, fifo-length, causal-length, fifo, sender, addr, State, put, encode, view}
-use Rattle.world.specs.Layout.{Changes, put-same, put-at, set-encode, reads-cell}
 use Rattle.definitions.specs.Machine.{with-tables, merge, causal-one, causal-all, ready, appended, raised-next, send-oks, fifo-one, cascade}
+use Rattle.world.specs.Layout.{Changes, put-same, put-at, set-encode, reads-cell}
+use Rattle.logs.specs.Pushed.{pushed}
 use Rattle.bounds.specs.Bounds.{Bounds, bounds-state}
 use Rattle.bounds.specs.Run.{Run, run-end, run-stop}
-use Rattle.logs.specs.Pushed.{pushed}
 use Rattle.causal.specs.Causal.{causal-bounds, causal-stands}
 use Rattle.sends.specs.Sends.{oks-keep, bounds-oks}
 use Rattle.ready.specs.Ready.{messages, lowest}

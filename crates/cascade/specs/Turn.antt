@@ -7,17 +7,17 @@ use mathlib.Core.Logic.{_⊎_, inl, inr}
 use Prim.Native.Nat.{ℕ, _-_, _≤_, _<_}
 use native.Mathlib.Omega.{arith}
 use borrow.Author.Tests.{not-true, not-false}
-use Rattle.base.specs.Tests.{bool-cases, clash, either, pick-yes, pick-no}
 use Rattle.definitions.specs.General.{pick, some, first-from, chosen}
-use Rattle.base.specs.Search.{some-i, first-law}
 use Rattle.definitions.specs.World.{count, fifo-length, sender, State, encode, view}
-use Rattle.world.specs.Layout.{Reads, Changes, reads-cell}
 use Rattle.definitions.specs.Machine.{ready, appended, causal-all, raised-next, due, fifo-one, cascade}
-use Rattle.bounds.specs.Bounds.{Bounds, bounds-words}
-use Rattle.bounds.specs.Run.{run-more}
+use Rattle.base.specs.Tests.{bool-cases, clash, either, pick-yes, pick-no}
+use Rattle.base.specs.Search.{some-i, first-law}
+use Rattle.world.specs.Layout.{Reads, Changes, reads-cell}
 use Rattle.quiescence.specs.Quiescent.{Quiescent, the-count, a-sender, fifo-one-fixed}
 use Rattle.quiescence.specs.Turn.{OneSenderIf, NoneDue, before-oks, quiescent-lowest, turn-sender, turn-quiescent}
 use Rattle.logs.specs.Pushed.{pushed}
+use Rattle.bounds.specs.Bounds.{Bounds, bounds-words}
+use Rattle.bounds.specs.Run.{run-more}
 use Rattle.ready.specs.Ready.{messages, lowest, looked, looked-lowest, KnownIf, known-state}
 use Rattle.cascade.specs.Cascade.{Cascading, kept-more, cascading-stop}
 

@@ -6,10 +6,10 @@ use mathlib.Core.List.{List}
 use Prim.Native.Nat.{ℕ, suc, _+_, _-_, _≤_, _<_}
 use native.Mathlib.Omega.{arith}
 use Rattle.definitions.specs.General.{chosen, loop, first-from}
-use Rattle.base.specs.Loop.{loop-keeps}
 use Rattle.definitions.specs.World.{Cell, fifo-length, causal-length, State, put, encode, view}
-use Rattle.world.specs.Layout.{Changes, put-same, put-at, reads-cell}
 use Rattle.definitions.specs.Machine.{with-tables, merge, deliverable-at, causal-one, causal-all}
+use Rattle.base.specs.Loop.{loop-keeps}
+use Rattle.world.specs.Layout.{Changes, put-same, put-at, reads-cell}
 use Rattle.bounds.specs.Bounds.{Bounds, bounds-state}
 use Rattle.bounds.specs.Run.{Run, loop-leaves, run-more, run-end, run-stop}
 

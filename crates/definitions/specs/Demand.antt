@@ -11,8 +11,8 @@ use lib.ListN.{length, getD}
 use Rattle.definitions.specs.General.{Reply, gives, Listed, Bytes}
 use Rattle.definitions.specs.World.{size, count, up, sender, view, addressed}
 use Rattle.definitions.specs.Settle.{Ending, done, stopped}
-use Rattle.definitions.specs.Words.{making-refusal, settled-words, settle-reply, log-words, on-words, started-words}
 use Rattle.definitions.specs.History.{Before, Run, Item, run, TrustRule}
+use Rattle.definitions.specs.Words.{making-refusal, settled-words, settle-reply, log-words, on-words, started-words}
 use Rattle.definitions.specs.Journal.{write-refusal, written, read-refusal, read-out}
 
 -- ---- demand 2, of journals: of the bytes that the two calls leave, in outputs as long as is needed

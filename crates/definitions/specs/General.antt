@@ -1,5 +1,5 @@
--- The general words that the definitions are written in: choice, refusals by number, tests of the numbers below
--- n, a loop, lists, masks, bytes. They rest on the kit's library, as all of this crate.
+-- The general words that the definitions are written in: choice, refusals by number and what a call answers, tests
+-- of the numbers below n, a loop, lists, masks, bytes. They rest on the kit's library, as all of this crate.
 -- Assumes nothing.
 use mathlib.Core.Path.{_≡_}
 use mathlib.Core.Bool.{Bool, true, false, not, _&&_, _||_}
@@ -22,7 +22,7 @@ needs n ok rest = pick ok rest n
 abbrev pub or-else : ℕ → ℕ → ℕ
 or-else first second = pick (eqb first 0) second first
 
--- What a call leaves in words or bytes that it was lent: these new ones where the refusal is 0, else what was there.
+-- What a call leaves in words or bytes that it was lent: new ones where the refusal is 0, else what was there.
 abbrev pub unless-refused : ℕ → List ℕ → List ℕ → List ℕ
 unless-refused n new before = pick (eqb n 0) new before
 

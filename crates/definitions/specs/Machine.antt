@@ -1,6 +1,6 @@
 -- What the five steps do to a state: document 01, section "Steps", in its order and words; the tests, the
 -- cascade with its two loops, and each step as a composition of named changes. It rests on the cells of
--- World and on loops, masks and tests (base). Assumes nothing.
+-- World. Assumes nothing.
 use mathlib.Core.Bool.{Bool, not, _&&_, _||_}
 use Prim.Native.Nat.{ℕ, zero, suc, _+_, _-_, max}
 use lib.Dec.{leb, eqb}

@@ -58,7 +58,7 @@ addr (flight m k q) = 6867 + m * 187 + 138 + (k * 16 + q)
 addr (order m) = 6867 + m * 187 + 186
 addr (unused i) = 18835 + i
 
--- The cell at a place: regions of cells, one after the other, each of some length.
+-- The cell at a place, the inverse of `addr`: regions of cells, one after the other, each of some length.
 pub record Region : Type 0 where
   pub extent : ℕ
   pub cell : ℕ → Cell

@@ -7,13 +7,13 @@ use native.Mathlib.Omega.{arith}
 use lib.Dec.{leb, eqb}
 use borrow.Author.Tests.{eq-eqb, ne-eqb}
 use Rattle.definitions.specs.General.{bit, absent, every}
-use Rattle.base.specs.Search.{every-cong}
-use Rattle.base.specs.Tests.{both, either}
-use Rattle.bounds.specs.Bounds.{Bounds, bounds-state}
-use Rattle.world.specs.Layout.{get-encode, Reads}
-use Rattle.sets.specs.Members.{Members}
 use Rattle.definitions.specs.World.{outside-causal, size, group, delivered, causal-length, fifo, causal, sender, stamp, State, encode, view}
 use Rattle.definitions.specs.Machine.{fits, deliverable, deliverable-at}
+use Rattle.base.specs.Search.{every-cong}
+use Rattle.base.specs.Tests.{both, either}
+use Rattle.world.specs.Layout.{get-encode, Reads}
+use Rattle.sets.specs.Members.{Members}
+use Rattle.bounds.specs.Bounds.{Bounds, bounds-state}
 
 -- ---- what the tests read of words
 module _ (s : State) (h : Bounds s) (p : ℕ) (hp : p < 16) where

@@ -3,9 +3,9 @@ ghost use mathlib.Core.Path.{_≡_};
 ghost use Prim.Native.Nat.{_+_, _≤_, _<_};
 ghost use lib.ListN.{length, getD};
 ghost use Rattle.definitions.specs.General.{absent, every};
+ghost use Rattle.definitions.specs.World.{view, size, group};
 ghost use Rattle.definitions.specs.Machine.{fits, deliverable-at};
 ghost use Rattle.world.specs.Layout.{Reads};
-ghost use Rattle.definitions.specs.World.{view, size, group};
 ghost use Rattle.bounds.specs.Bounds.{Bounds};
 ghost use Rattle.deliverable.specs.Tests.{Listed};
 

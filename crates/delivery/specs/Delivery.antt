@@ -10,16 +10,16 @@ use borrow.Author.Tests.{eq-eqb, ne-eqb}
 use lib.ListN.{length, take, drop, getD, set}
 use lib.Seq.{drop-drop, getD-set-same, getD-set-other}
 use Rattle.definitions.specs.General.{tabulate, pick}
+use Rattle.definitions.specs.World.{rule, order, view, Cell, size, count, group, trust, counter, sequence, next, delivered, up, fifo-length, causal-length, held, marks, fifo, causal, sender, mask, stamp, number, flight, unused, State, put, encode}
+use Rattle.definitions.specs.Machine.{merge, with-tables, causal-one}
 use Rattle.base.specs.Tabulate.{length-tabulate, getD-tabulate, is-tabulate}
 use Rattle.world.specs.Layout.{put-same, put-other, encode-ext, part-encode, reads-cell, Within, Reads, Changes}
-use Rattle.definitions.specs.Machine.{merge, with-tables, causal-one}
-use Rattle.definitions.specs.World.{rule, order, view, Cell, size, count, group, trust, counter, sequence, next, delivered, up, fifo-length, causal-length, held, marks, fifo, causal, sender, mask, stamp, number, flight, unused, State, put, encode}
-use Rattle.logs.specs.Pushed.{pushed}
 use Rattle.records.specs.declared.Process.{Process}
 use Rattle.records.specs.Record.{record-of, with-record, with-delivery, pick-to, pick-both}
+use Rattle.logs.specs.Pushed.{pushed}
+use Rattle.bounds.specs.Bounds.{Bounds}
 use Rattle.tables.specs.Table.{table-at, max-table, concat}
 use Rattle.tables.specs.Laws.{row-of, length-table, merged-at}
-use Rattle.bounds.specs.Bounds.{Bounds}
 
 -- message m's counters
 abbrev pub table-of : State → ℕ → List (List ℕ)

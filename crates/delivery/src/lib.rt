@@ -2,9 +2,9 @@
 ghost use mathlib.Core.Path.{_≡_};
 ghost use Prim.Native.Nat.{_+_, _<_};
 ghost use lib.ListN.{length};
+ghost use Rattle.definitions.specs.World.{view, group, stamp, causal-length};
 ghost use Rattle.definitions.specs.Machine.{causal-one};
 ghost use Rattle.world.specs.Layout.{Reads, Changes};
-ghost use Rattle.definitions.specs.World.{view, group, stamp, causal-length};
 ghost use Rattle.bounds.specs.Bounds.{Bounds};
 ghost use Rattle.delivery.specs.Delivery.{record-after};
 

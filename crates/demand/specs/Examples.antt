@@ -10,7 +10,6 @@ use native.Mathlib.Omega.{arith}
 use lib.Dec.{eqb}
 use lib.ListN.{length}
 use borrow.Author.Tests.{eq-eqb}
-use Rattle.base.specs.Tests.{clash, at-or-off}
 use Rattle.definitions.specs.General.{every, some, first-from, absent, chosen, loop, bit, with, without, mask-of, only}
 use Rattle.definitions.specs.World.{size, group, trust, up, fifo-length, causal-length, fifo, causal, State, put, has-group}
 use Rattle.definitions.specs.Setup.{fresh, setup-bits, setup-group, good-setup, setup-refusal, made}
@@ -18,9 +17,10 @@ use Rattle.definitions.specs.Machine.{with-tables, ready, deliverable, delivera
 use Rattle.definitions.specs.Steps.{read, good-mask, is-up, refusal, step}
 use Rattle.definitions.specs.Settle.{moves, receiver, origin, kind, movable, letter-of, lowest, settle-from}
 use Rattle.definitions.specs.History.{Event, sent, got, here, there, same, carried, chain, Before, casts, deliveries, gained, Run, Item, given, tick, act, run, names, InForce, AllAlong, TrustRule}
-use Rattle.world.specs.Runs.{on-states, started}
 use Rattle.definitions.specs.Words.{making-refusal, settled-words, on-words, started-words}
 use Rattle.definitions.specs.Demand.{Agreed as AgreedWords}
+use Rattle.base.specs.Tests.{clash, at-or-off}
+use Rattle.world.specs.Runs.{on-states, started}
 use Rattle.keeps.specs.Keeps.{fresh-sound}
 use Rattle.agreement.specs.Agreement.{Agreed}
 use Rattle.carried.specs.Carried.{start-carried}

@@ -10,15 +10,15 @@ use Prim.Native.Nat.{ℕ, _≤_, _<_}
 use native.Mathlib.Omega.{arith}
 use lib.Dec.{eqb}
 use borrow.Author.Tests.{eq-eqb}
-use Rattle.base.specs.Tests.{bool-cases, clash, both, both-i}
 use Rattle.definitions.specs.General.{bit}
 use Rattle.definitions.specs.World.{size, trust, up, State}
 use Rattle.definitions.specs.Setup.{setup-refusal}
 use Rattle.definitions.specs.Steps.{arrives, is-up, in-flight, step}
-use Rattle.world.specs.StepLaws.{lowest-chosen, lowest-moves, moves-taken}
 use Rattle.definitions.specs.Settle.{nothing, moves, lowest, Settled, settle-from}
-use Rattle.world.specs.SettleLaws.{settle}
 use Rattle.definitions.specs.History.{Run, Item, taken, run, TrustRule}
+use Rattle.base.specs.Tests.{bool-cases, clash, both, both-i}
+use Rattle.world.specs.StepLaws.{lowest-chosen, lowest-moves, moves-taken}
+use Rattle.world.specs.SettleLaws.{settle}
 use Rattle.world.specs.Runs.{on-states, started}
 use Rattle.effects.specs.Views.{Ground}
 use Rattle.order.specs.Runs.{Whole, whole-started}

@@ -12,16 +12,16 @@ use lib.Dec.{eqb}
 use lib.ListN.{length, getD}
 use borrow.Author.Tests.{ltb-true}
 use Rattle.definitions.specs.General.{in-at, gives}
-use Rattle.base.specs.Tabulate.{length-tabulate, getD-tabulate}
 use Rattle.definitions.specs.World.{size, count, up, causal-length, fifo, causal, sender, State, encode, view, addressed}
-use Rattle.world.specs.Layout.{get-encode}
-use Rattle.world.specs.SoundLaws.{Sound, size-high, count-high, sender-low, fifo-addressed}
 use Rattle.definitions.specs.Setup.{setup-refusal}
 use Rattle.definitions.specs.Settle.{Ending, done, stopped}
-use Rattle.definitions.specs.Words.{settle-reply, log-words, on-words}
 use Rattle.definitions.specs.History.{Before, casts, Run, Item, run}
-use Rattle.world.specs.Runs.{on-states, started}
+use Rattle.definitions.specs.Words.{settle-reply, log-words, on-words}
 use Rattle.definitions.specs.Demand.{CausalOrder, Agreed, AtMost, done-within, stopped-within, SaysDone, says-done, Demand3, Demand3Always}
+use Rattle.base.specs.Tabulate.{length-tabulate, getD-tabulate}
+use Rattle.world.specs.Layout.{get-encode}
+use Rattle.world.specs.SoundLaws.{Sound, size-high, count-high, sender-low, fifo-addressed}
+use Rattle.world.specs.Runs.{on-states, started}
 use Rattle.keeps.specs.Keeps.{run-sound, fresh-sound}
 use Rattle.order.specs.Precedence.{cast-low}
 use Rattle.order.specs.Runs.{Whole}

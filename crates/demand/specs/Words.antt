@@ -8,16 +8,16 @@ use native.Mathlib.Omega.{arith}
 use lib.Dec.{eqb}
 use Rattle.definitions.specs.General.{bit}
 use Rattle.definitions.specs.World.{size, group, trust, up, mask, State, encode, view, addressed}
-use Rattle.world.specs.Layout.{get-encode}
-use Rattle.world.specs.SoundLaws.{Sound, size-high}
 use Rattle.definitions.specs.Steps.{is-up}
 use Rattle.definitions.specs.History.{Run, Item, act, run, Names, names, InForce, Fair, AllAlong, TrustRule}
-use Rattle.world.specs.Runs.{on-states}
 use Rattle.definitions.specs.Words.{on-words}
+use Rattle.world.specs.Layout.{get-encode}
+use Rattle.world.specs.SoundLaws.{Sound, size-high}
+use Rattle.world.specs.Runs.{on-states}
+use Rattle.keeps.specs.Keeps.{run-sound}
 use Rattle.effects.specs.Runs.{act-keeps, run-keeps}
 use Rattle.effects.specs.Holding.{step-lasting}
 use Rattle.carried.specs.Carried.{written, act-carried, act-sound, run-carried}
-use Rattle.keeps.specs.Keeps.{run-sound}
 
 -- ---- the words of a sound state
 module _ (s : State) (h : Sound s) where

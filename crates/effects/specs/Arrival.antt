@@ -7,11 +7,11 @@ use Prim.Native.Nat.{ℕ}
 use mathlib.Core.Logic.{_≢_}
 use native.Mathlib.Decide.{ℕ-discrete}
 use Rattle.definitions.specs.General.{bit, without}
-use Rattle.base.specs.Bits.{without-old, without-other}
 use Rattle.definitions.specs.World.{held, flight, State, put}
+use Rattle.definitions.specs.Machine.{leave, mark, received}
+use Rattle.base.specs.Bits.{without-old, without-other}
 use Rattle.world.specs.Layout.{put-at}
 use Rattle.world.specs.Kept.{mark-cases, hold-cases, marked-keeps, received-keeps}
-use Rattle.definitions.specs.Machine.{leave, mark, received}
 use Rattle.effects.specs.Views.{process, Scene, scene, ground}
 
 -- ---- r holds m; the letter of kind k for m from q to u flies

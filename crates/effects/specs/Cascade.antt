@@ -11,13 +11,13 @@ use native.Mathlib.Omega.{arith}
 use lib.Dec.{eqb}
 use borrow.Author.Tests.{ne-eqb, eq-eqb, eqb-true}
 use Rattle.definitions.specs.General.{pick, bit, mask-of}
-use Rattle.base.specs.Tests.{pick-no, pick-yes, both, both-l, both-r, clash, eqb-refl, at-or-off}
 use Rattle.definitions.specs.World.{Cell, size, count, group, counter, sequence, next, delivered, fifo-length, causal-length, held, fifo, causal, sender, stamp, number, flight, State, put}
-use Rattle.world.specs.Layout.{put-same, put-at}
 use Rattle.definitions.specs.Machine.{with-tables, addressees, merge, causal-one, causal-all, appended, raised-next, due, send-ok, send-oks, fifo-one, cascade}
-use Rattle.keeps.specs.Next.{next-before}
+use Rattle.base.specs.Tests.{pick-no, pick-yes, both, both-l, both-r, clash, eqb-refl, at-or-off}
+use Rattle.world.specs.Layout.{put-same, put-at}
 use Rattle.world.specs.Kept.{causal-all-keeps, oks-keep, cascade-keeps}
 use Rattle.world.specs.Local.{other-away, causal-one-away, appended-away, raised-next-away, fifo-one-away}
+use Rattle.keeps.specs.Next.{next-before}
 use Rattle.effects.specs.Views.{process-local, Messages, messages, Process, process, Scene, scene, Ground, ground, Still, still, letters}
 
 -- ---- what no part writes

@@ -8,14 +8,14 @@ use Prim.Native.Nat.{ℕ, _<_}
 use native.Mathlib.Omega.{arith}
 use lib.Dec.{ltb}
 use borrow.Author.Tests.{eqb-true, eqb-false}
-use Rattle.base.specs.Tests.{clash, both, both-r}
-use Rattle.base.specs.Refusals.{needs-none}
 use Rattle.definitions.specs.General.{bit}
 use Rattle.definitions.specs.World.{size, count, group, trust, up, held, mask, State, put, addressed, is-process, is-message}
-use Rattle.world.specs.Layout.{put-other}
-use Rattle.world.specs.SoundLaws.{Sound, size-high, count-high, letter-facts, held-facts}
 use Rattle.definitions.specs.Machine.{with-tables, raised, stamped, numbered, posted, multicast, cascade, leave, received, arrival, trust-set, crash}
 use Rattle.definitions.specs.Steps.{Step, multicasts, arrives, loses, trusts, crashes, malformed, is-up, in-flight, refusal, accepted, step}
+use Rattle.base.specs.Tests.{clash, both, both-r}
+use Rattle.base.specs.Refusals.{needs-none}
+use Rattle.world.specs.Layout.{put-other}
+use Rattle.world.specs.SoundLaws.{Sound, size-high, count-high, letter-facts, held-facts}
 use Rattle.world.specs.StepLaws.{InFlight, accepted-arrival}
 use Rattle.effects.specs.Views.{Ground, ground, Still, still}
 use Rattle.effects.specs.Cascade.{cascade-still}

@@ -6,10 +6,10 @@ use mathlib.Core.List.{List, [], _∷_, _++_}
 use Rattle.definitions.specs.General.{pick}
 use Rattle.definitions.specs.World.{State}
 use Rattle.definitions.specs.Steps.{Step, arrives, read, accepted}
-use Rattle.world.specs.StepLaws.{lowest-moves, moves-taken}
 use Rattle.definitions.specs.Settle.{lowest}
-use Rattle.world.specs.SettleLaws.{settle-keeps}
 use Rattle.definitions.specs.History.{Run, Item, given, settling, taken, tick, settles, act, run}
+use Rattle.world.specs.StepLaws.{lowest-moves, moves-taken}
+use Rattle.world.specs.SettleLaws.{settle-keeps}
 use Rattle.world.specs.Runs.{on-states}
 
 module _ (P : Run State → Type 0)

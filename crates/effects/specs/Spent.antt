@@ -9,12 +9,12 @@ use Prim.Native.Nat.{ℕ, zero, suc, _-_, _≤_, _<_}
 use native.Mathlib.Omega.{arith}
 use borrow.Author.Tests.{eqb-true, ne-eqb}
 use Rattle.definitions.specs.General.{pick, bit}
-use Rattle.base.specs.Tests.{pick-no}
-use Rattle.base.specs.Loop.{loop-keeps}
 use Rattle.definitions.specs.World.{count, group, trust, up, fifo-length, next, held, sender, number, State, put}
-use Rattle.world.specs.Layout.{put-at, put-other}
 use Rattle.definitions.specs.Machine.{with-tables, addressees, in-turn, ready, fifo-one, cascade, raised, stamped, numbered, multicast, leave, mark, hold, arrival, trust-set, crash, posted as post}
 use Rattle.definitions.specs.Steps.{Step, multicasts, arrives, loses, trusts, crashes, malformed, accepted, step}
+use Rattle.base.specs.Tests.{pick-no}
+use Rattle.base.specs.Loop.{loop-keeps}
+use Rattle.world.specs.Layout.{put-at, put-other}
 use Rattle.world.specs.StepLaws.{accepted-arrival}
 use Rattle.world.specs.Kept.{mark-cases, hold-cases, holding}
 use Rattle.effects.specs.Views.{Scene, scene, Still}

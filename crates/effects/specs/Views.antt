@@ -4,8 +4,8 @@
 -- Assumes nothing.
 use mathlib.Core.Path.{_≡_, refl}
 use Prim.Native.Nat.{ℕ}
-use Rattle.world.specs.Local.{Own}
 use Rattle.definitions.specs.World.{Cell, size, count, group, trust, counter, sequence, next, delivered, up, fifo-length, causal-length, held, marks, fifo, causal, sender, mask, stamp, number, flight, State}
+use Rattle.world.specs.Local.{Own}
 
 -- ---- the messages: how many, and of each its sender, mask, counters and sequence numbers
 pub record Messages : Type 0 where

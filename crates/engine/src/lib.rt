@@ -6,8 +6,8 @@ use definitions::Settling;
 ghost use mathlib.Core.Path.{_≡_};
 ghost use lib.ListN.{length};
 ghost use Rattle.definitions.specs.General.{refusal-in, value-in};
-ghost use Rattle.definitions.specs.Journal.{needed-reply, write-refusal, written, count-reply, read-refusal, read-out};
 ghost use Rattle.definitions.specs.Words.{making-refusal, made-words, step-refusal, stepped-words, settle-reply, settled-words, log-start, length-reply};
+ghost use Rattle.definitions.specs.Journal.{needed-reply, write-refusal, written, count-reply, read-refusal, read-out};
 ghost use Rattle.definitions.specs.Replay.{Counts, replay-reply, replayed-words};
 ghost use Rattle.definitions.specs.Answers.{arrivals-in, done-in};
 

@@ -7,8 +7,8 @@ use lib.Dec.{ltb, eqb}
 use borrow.Author.Tests.{eq-eqb, ne-eqb, lt-ltb, le-ltb}
 use lib.ListN.{length}
 use Rattle.definitions.specs.General.{pick, every, byte, low-first}
-use Rattle.base.specs.Search.{every-intro, every-more, every-fails}
 use Rattle.definitions.specs.Steps.{Step, multicasts, arrives, loses, trusts, crashes, malformed, zeros-from, read}
+use Rattle.base.specs.Search.{every-intro, every-more, every-fails}
 use Rattle.given.specs.declared.Given.{Given}
 use Rattle.given.specs.declared.Given.the-variants as given
 

@@ -9,15 +9,15 @@ use native.Mathlib.Omega.{arith}
 use native.Mathlib.Decide.{ℕ-discrete}
 use lib.Dec.{eqb}
 use borrow.Author.Tests.{ltb-true, lt-ltb, le-leb, leb-true, eqb-true, eq-eqb, ne-eqb, not-true}
-use Rattle.base.specs.Tests.{clash, both, both-l, both-r, both-i}
 use Rattle.definitions.specs.General.{pick, in-at, bit}
+use Rattle.definitions.specs.World.{size, count, rule, group, trust, counter, sequence, next, delivered, up, fifo-length, causal-length, held, marks, fifo, causal, sender, mask, stamp, number, flight, order, unused, State, put, is-process, is-message, has-group, outside-fifo}
+use Rattle.definitions.specs.Sound.{addressee, sends, logged-of, fit, fine}
+use Rattle.definitions.specs.Machine.{in-turn, ready, causal-all, appended, raised-next, fifo-one, cascade, leave, mark, hold, received, arrival, trust-set}
+use Rattle.base.specs.Tests.{clash, both, both-l, both-r, both-i}
 use Rattle.base.specs.Count.{absent-out, room-left}
 use Rattle.base.specs.Loop.{loop-keeps}
-use Rattle.definitions.specs.World.{size, count, rule, group, trust, counter, sequence, next, delivered, up, fifo-length, causal-length, held, marks, fifo, causal, sender, mask, stamp, number, flight, order, unused, State, put, is-process, is-message, has-group, outside-fifo}
 use Rattle.world.specs.Layout.{Within, put-at}
-use Rattle.definitions.specs.Sound.{addressee, sends, logged-of, fit, fine}
 use Rattle.world.specs.SoundLaws.{Sound, size-high, count-high, sender-low, fifo-addressed, fifo-once, Addressed, held-facts, letter-facts}
-use Rattle.definitions.specs.Machine.{in-turn, ready, causal-all, appended, raised-next, fifo-one, cascade, leave, mark, hold, received, arrival, trust-set}
 use Rattle.world.specs.Kept.{marked-keeps, received-keeps}
 use Rattle.keeps.specs.Forms.{word-to}
 use Rattle.keeps.specs.Logs.{Longer, put-longer, longer-item, longer-bound, longer-length, longer-listed, longer-tally, item-weaker}

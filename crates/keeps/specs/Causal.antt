@@ -7,15 +7,15 @@ use Prim.Native.Nat.{ℕ, _+_, _<_, max, _-_}
 use native.Mathlib.Omega.{arith}
 use lib.Dec.{leb, eqb}
 use borrow.Author.Tests.{ltb-true, lt-ltb, le-leb, eqb-true}
-use Rattle.base.specs.Tests.{clash, both-l, both-i}
 use Rattle.definitions.specs.General.{pick, in-at}
+use Rattle.definitions.specs.World.{Cell, size, count, rule, group, trust, counter, sequence, next, delivered, up, fifo-length, causal-length, held, marks, fifo, causal, sender, mask, stamp, number, flight, order, unused, State, put, is-process, has-group, outside-fifo, outside-causal}
+use Rattle.definitions.specs.Sound.{sends, word, logged-of, fit, fine}
+use Rattle.definitions.specs.Machine.{with-tables, deliverable, deliverable-at, merge, causal-one, causal-all}
+use Rattle.base.specs.Tests.{clash, both-l, both-i}
 use Rattle.base.specs.Count.{absent-out, in-absent, room-left}
 use Rattle.base.specs.Loop.{loop-keeps}
-use Rattle.definitions.specs.World.{Cell, size, count, rule, group, trust, counter, sequence, next, delivered, up, fifo-length, causal-length, held, marks, fifo, causal, sender, mask, stamp, number, flight, order, unused, State, put, is-process, has-group, outside-fifo, outside-causal}
 use Rattle.world.specs.Layout.{put-at}
-use Rattle.definitions.specs.Sound.{sends, word, logged-of, fit, fine}
 use Rattle.world.specs.SoundLaws.{Sound, word-is, size-high, count-high, group-high, sender-low, stamp-high, fifo-addressed, causal-in-fifo, causal-once}
-use Rattle.definitions.specs.Machine.{with-tables, deliverable, deliverable-at, merge, causal-one, causal-all}
 use Rattle.keeps.specs.Forms.{word-max}
 use Rattle.keeps.specs.Logs.{Longer, put-longer, longer-item, longer-bound}
 use Rattle.keeps.specs.Changes.{SoundAt}

@@ -9,14 +9,14 @@ use Prim.Native.Nat.{ℕ, zero, suc, _≤_, _<_, _^_}
 use native.Mathlib.Omega.{arith}
 use lib.Dec.{leb, eqb}
 use borrow.Author.Tests.{eqb-true, lt-ltb}
-use Rattle.base.specs.Tests.{clash, both-l, both-i}
 use Rattle.definitions.specs.General.{pick, bit, with, without, only}
-use Rattle.base.specs.Bits.{only-e, only-i, with-cases, without-old, sub-without}
 use Rattle.definitions.specs.World.{Cell, size, trust, up, held, marks, sender, flight, State, put, is-process, is-message}
-use Rattle.world.specs.Layout.{put-at, put-other}
 use Rattle.definitions.specs.Sound.{addressee, sends, fit, fine}
-use Rattle.world.specs.SoundLaws.{Sound, word-in, word-is, size-high, addressees-bit, Addressed, held-facts, Looked, fit-on}
 use Rattle.definitions.specs.Machine.{addressees, in-turn, due, send-ok, send-oks, leave, mark, hold, crash}
+use Rattle.base.specs.Tests.{clash, both-l, both-i}
+use Rattle.base.specs.Bits.{only-e, only-i, with-cases, without-old, sub-without}
+use Rattle.world.specs.Layout.{put-at, put-other}
+use Rattle.world.specs.SoundLaws.{Sound, word-in, word-is, size-high, addressees-bit, Addressed, held-facts, Looked, fit-on}
 use Rattle.keeps.specs.Forms.{word-to, bit-below}
 
 -- A sound world in which p is a process.

@@ -9,10 +9,10 @@ use native.Mathlib.Nat.{div-eq-of-lt}
 use lib.Dec.{ltb, leb, eqb}
 use lib.Pow.{pow-mono}
 use borrow.Author.Tests.{ltb-true, ltb-false, le-leb, leb-true, eq-eqb, eqb-true}
-use Rattle.base.specs.Tests.{clash}
 use Rattle.definitions.specs.General.{pick, bit, only}
-use Rattle.base.specs.Bits.{bit-zero, only-i}
 use Rattle.definitions.specs.Sound.{word}
+use Rattle.base.specs.Tests.{clash}
+use Rattle.base.specs.Bits.{bit-zero, only-i}
 use Rattle.world.specs.SoundLaws.{word-out, word-is, word-leb}
 
 -- a word and its test changed together

@@ -13,15 +13,15 @@ use lib.Dec.{ltb, leb, eqb, lit<}
 use lib.ListN.{length}
 use lib.Pow.{pow-pos}
 use borrow.Author.Tests.{ltb-true, lt-ltb, le-ltb, leb-true, le-leb, eq-eqb, eqb-true}
-use Rattle.base.specs.Tests.{both-l, both-r, both-i, either-e}
 use Rattle.definitions.specs.General.{pick, needs, every, tally, only, byte}
-use Rattle.base.specs.Search.{every-true, every-intro, some-i, some-e}
-use Rattle.base.specs.Bits.{only-i}
 use Rattle.definitions.specs.World.{size, count, rule, group, trust, counter, sequence, next, delivered, up, fifo-length, causal-length, held, marks, fifo, causal, sender, mask, stamp, number, flight, order, unused, State, is-process, is-message, has-group}
 use Rattle.definitions.specs.Sound.{addressee, sends, word, item, logged-of, fit, fine}
+use Rattle.definitions.specs.Setup.{fresh, setup-bits, setup-group, good-setup, setup-refusal, made}
+use Rattle.base.specs.Tests.{both-l, both-r, both-i, either-e}
+use Rattle.base.specs.Search.{every-true, every-intro, some-i, some-e}
+use Rattle.base.specs.Bits.{only-i}
 use Rattle.world.specs.SoundLaws.{Sound}
 use Rattle.world.specs.SetupLaws.{fresh-groups}
-use Rattle.definitions.specs.Setup.{fresh, setup-bits, setup-group, good-setup, setup-refusal, made}
 use Rattle.keeps.specs.Forms.{word-zero, bit-below}
 
 -- a word that is a where it is in use, and zero elsewhere

@@ -10,19 +10,19 @@ use lib.Dec.{eqb}
 use lib.ListN.{length}
 use borrow.Author.Tests.{eqb-true, eq-eqb}
 use Rattle.definitions.specs.General.{pick, unless-refused}
-use Rattle.base.specs.Refusals.{needs-none}
 use Rattle.definitions.specs.World.{State, encode, view}
-use Rattle.world.specs.Layout.{length-encode}
 use Rattle.definitions.specs.Sound.{sound}
-use Rattle.world.specs.SoundLaws.{Sound, size-high, count-high, sound-facts, facts-sound, sound-words}
 use Rattle.definitions.specs.Setup.{setup-refusal, made}
 use Rattle.definitions.specs.Machine.{arrival}
 use Rattle.definitions.specs.Steps.{Step, multicasts, arrives, loses, trusts, crashes, malformed, read, refusal, accepted, step, after}
-use Rattle.world.specs.StepLaws.{accepted-multicast, accepted-arrival, accepted-loss, accepted-trust, moves-taken, lowest-moves}
 use Rattle.definitions.specs.Settle.{Choice, letter, lowest, settle-from}
-use Rattle.world.specs.SettleLaws.{settle, settle-keeps}
-use Rattle.definitions.specs.Words.{needs-world, making-refusal, made-words, step-words, step-refusal, stepped-words, settle-words, settled-words}
 use Rattle.definitions.specs.History.{Run, Item, given, settling, taken, tick, settles, act, run}
+use Rattle.definitions.specs.Words.{needs-world, making-refusal, made-words, step-words, step-refusal, stepped-words, settle-words, settled-words}
+use Rattle.base.specs.Refusals.{needs-none}
+use Rattle.world.specs.Layout.{length-encode}
+use Rattle.world.specs.SoundLaws.{Sound, size-high, count-high, sound-facts, facts-sound, sound-words}
+use Rattle.world.specs.StepLaws.{accepted-multicast, accepted-arrival, accepted-loss, accepted-trust, moves-taken, lowest-moves}
+use Rattle.world.specs.SettleLaws.{settle, settle-keeps}
 use Rattle.world.specs.Runs.{on-states}
 use Rattle.world.specs.Calls.{item-words, run-words}
 use Rattle.keeps.specs.Changes.{crash-sound, leave-sound}

@@ -9,11 +9,11 @@ use Prim.Native.Nat.{ℕ, _≤_, _<_}
 use native.Mathlib.Omega.{arith}
 use lib.Dec.{ltb, leb}
 use borrow.Author.Tests.{ltb-true, lt-ltb, leb-true, le-leb, not-true}
-use Rattle.base.specs.Tests.{both-l, both-r}
 use Rattle.definitions.specs.General.{In, in-at, absent}
-use Rattle.base.specs.Count.{absent-in, absent-out, room-within}
 use Rattle.definitions.specs.World.{count, fifo-length, causal-length, fifo, causal, State, is-process, is-message, outside-fifo}
 use Rattle.definitions.specs.Sound.{addressee, word, item, fit, fine}
+use Rattle.base.specs.Tests.{both-l, both-r}
+use Rattle.base.specs.Count.{absent-in, absent-out, room-within}
 use Rattle.world.specs.SoundLaws.{word-in}
 use Rattle.keeps.specs.Forms.{word-to}
 

@@ -11,12 +11,12 @@ use native.Mathlib.Numerals.{add-one}
 use native.Mathlib.Decide.{ℕ-discrete}
 use lib.Dec.{ltb, leb, eqb}
 use borrow.Author.Tests.{ltb-true, ltb-false, lt-ltb, le-ltb, le-leb, eq-eqb, ne-eqb}
-use Rattle.base.specs.Tests.{clash, both-l, both-r, both-i}
 use Rattle.definitions.specs.General.{pick, in-at, tally, absent}
-use Rattle.base.specs.Count.{tally-cong, absent-cong, absent-in, in-absent}
 use Rattle.definitions.specs.World.{Cell, State, put}
-use Rattle.world.specs.Layout.{put-same, put-other}
 use Rattle.definitions.specs.Sound.{word, item}
+use Rattle.base.specs.Tests.{clash, both-l, both-r, both-i}
+use Rattle.base.specs.Count.{tally-cong, absent-cong, absent-in, in-absent}
+use Rattle.world.specs.Layout.{put-same, put-other}
 use Rattle.world.specs.SoundLaws.{word-in, word-out, word-is}
 use Rattle.keeps.specs.Forms.{word-to}
 

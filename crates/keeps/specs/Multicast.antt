@@ -10,16 +10,16 @@ use native.Mathlib.Omega.{arith}
 use native.Mathlib.Decide.{ℕ-discrete}
 use lib.Dec.{ltb, leb, eqb}
 use borrow.Author.Tests.{ltb-true, ltb-false, lt-ltb, le-ltb, le-leb, eqb-true, eqb-false, eq-eqb}
-use Rattle.base.specs.Tests.{clash, both, both-l, both-r, both-i}
 use Rattle.definitions.specs.General.{pick, bit, only}
-use Rattle.base.specs.Count.{tally-cong}
-use Rattle.base.specs.Bits.{only-e, only-i}
 use Rattle.definitions.specs.World.{size, count, rule, group, trust, counter, sequence, next, delivered, up, fifo-length, causal-length, held, marks, fifo, causal, sender, mask, stamp, number, flight, order, unused, State, put, is-process, is-message, has-group}
-use Rattle.world.specs.Layout.{Within, put-same, put-other}
 use Rattle.definitions.specs.Sound.{addressee, sends, word, logged-of, fit, fine}
-use Rattle.world.specs.SoundLaws.{Sound, word-out, word-is, size-high, fifo-addressed}
 use Rattle.definitions.specs.Machine.{with-tables, raised, stamped, numbered, posted, multicast}
 use Rattle.definitions.specs.Steps.{good-mask}
+use Rattle.base.specs.Tests.{clash, both, both-l, both-r, both-i}
+use Rattle.base.specs.Count.{tally-cong}
+use Rattle.base.specs.Bits.{only-e, only-i}
+use Rattle.world.specs.Layout.{Within, put-same, put-other}
+use Rattle.world.specs.SoundLaws.{Sound, word-out, word-is, size-high, fifo-addressed}
 use Rattle.keeps.specs.Forms.{word-to, word-zero, word-wider, word-raised, only-empty, bit-below}
 use Rattle.keeps.specs.Logs.{item-weaker}
 use Rattle.keeps.specs.Changes.{send-sound}

@@ -1,9 +1,9 @@
 -- Next may rise before the causal deliveries: they neither look at it nor change it. Assumes nothing.
 use mathlib.Core.Path.{_≡_, refl, sym, ap, _∙_, fun-ext}
 use Prim.Native.Nat.{ℕ, _-_}
-use Rattle.base.specs.Loop.{loop-related}
 use Rattle.definitions.specs.World.{Cell, size, count, rule, group, trust, counter, sequence, next, delivered, up, fifo-length, causal-length, held, marks, fifo, causal, sender, mask, stamp, number, flight, order, unused, State, put}
 use Rattle.definitions.specs.Machine.{with-tables, deliverable, deliverable-at, merge, causal-one, causal-all, raised-next}
+use Rattle.base.specs.Loop.{loop-related}
 
 -- one causal delivery: each cell is the same
 next-first : (s : State) (p q i : ℕ) (c : Cell)

@@ -9,16 +9,16 @@ use native.Mathlib.Omega.{arith}
 use lib.Dec.{eqb}
 use lib.ListN.{length}
 use borrow.Author.Tests.{eqb-true, ltb-true}
-use Rattle.base.specs.Tests.{clash, both-l, both-r}
 use Rattle.definitions.specs.General.{tabulate, gives}
-use Rattle.definitions.specs.Block.{block, check-of}
 use Rattle.definitions.specs.World.{size, up, fifo-length, causal-length, fifo, causal, State, encode, view, is-process}
-use Rattle.world.specs.SoundLaws.{Sound, size-high}
 use Rattle.definitions.specs.Setup.{setup-refusal, made}
 use Rattle.definitions.specs.Steps.{read, is-up, refusal, after}
 use Rattle.definitions.specs.Settle.{Ending, done, stopped}
-use Rattle.world.specs.SettleLaws.{settle}
 use Rattle.definitions.specs.Words.{making-refusal, made-words, step-refusal, stepped-words, settled-words, settle-reply, log-words}
+use Rattle.definitions.specs.Block.{block, check-of}
+use Rattle.base.specs.Tests.{clash, both-l, both-r}
+use Rattle.world.specs.SoundLaws.{Sound, size-high}
+use Rattle.world.specs.SettleLaws.{settle}
 use Rattle.keeps.specs.Keeps.{fresh-sound, after-sound, settle-sound}
 use Rattle.carried.specs.Calls.{view-agree, refusal-carried, step-carried, making-carried, made-carried, log-carried}
 use Rattle.carried.specs.Carried.{settle-carried, reply-carried}

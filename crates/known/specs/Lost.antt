@@ -13,16 +13,16 @@ use native.Mathlib.Decide.{ℕ-discrete}
 use lib.Dec.{eqb}
 use lib.ListN.{length, getD}
 use borrow.Author.Tests.{eqb-true}
-use Rattle.base.specs.Tests.{clash, is-same}
 use Rattle.definitions.specs.General.{every, some, first-from, absent, in-at, tabulate, chosen, loop, bit, with, without, mask-of, only}
-use Rattle.base.specs.Search.{every-true}
-use Rattle.base.specs.Bits.{bit-zero}
 use Rattle.definitions.specs.World.{size, count, causal-length, held, causal, flight, State, put, addressed, has-group}
+use Rattle.definitions.specs.Setup.{fresh, setup-bits, setup-group, good-setup, setup-refusal, made}
 use Rattle.definitions.specs.Machine.{with-tables, ready, deliverable, deliverable-at, merge, causal-one, causal-all, appended, raised-next, due, send-ok, send-oks, fifo-one, cascade, raised, stamped, numbered, posted, multicast, leave, mark, hold, arrival, trust-set, crash}
 use Rattle.definitions.specs.Steps.{Step, multicasts, arrives, loses, trusts, crashes, malformed, read, good-mask, refusal, accepted, step}
-use Rattle.definitions.specs.Setup.{fresh, setup-bits, setup-group, good-setup, setup-refusal, made}
-use Rattle.definitions.specs.Words.{log-words, on-words, started-words}
 use Rattle.definitions.specs.History.{casted, gained, deliveries, Run, Item, given, taken, tick, act, run, InForce}
+use Rattle.definitions.specs.Words.{log-words, on-words, started-words}
+use Rattle.base.specs.Tests.{clash, is-same}
+use Rattle.base.specs.Search.{every-true}
+use Rattle.base.specs.Bits.{bit-zero}
 use Rattle.world.specs.Runs.{on-states, started}
 use Rattle.keeps.specs.Keeps.{fresh-sound}
 use Rattle.effects.specs.Arrival.{Held, Fly}

@@ -8,13 +8,13 @@ use Prim.Native.Nat.{ℕ, zero, suc}
 use native.Mathlib.Decide.{ℕ-discrete}
 use lib.Dec.{eqb}
 use Rattle.definitions.specs.General.{every, some, first-from, absent, chosen, loop, bit, with, without, mask-of, only, tab-from, tabulate, filled}
-use Rattle.definitions.specs.Checksum.{ones-sum, checksum}
-use Rattle.definitions.specs.Block.{body, block, check-of}
 use Rattle.definitions.specs.World.{fifo-length, causal-length, fifo, causal, State, put, has-group, is-process}
 use Rattle.definitions.specs.Setup.{fresh, setup-bits, setup-group, good-setup, setup-refusal, made}
 use Rattle.definitions.specs.Machine.{with-tables, ready, deliverable, deliverable-at, merge, causal-one, causal-all, appended, raised-next, due, send-ok, send-oks, fifo-one, cascade, raised, stamped, numbered, posted, multicast, leave, mark, hold, arrival, trust-set, crash}
 use Rattle.definitions.specs.Steps.{read, good-mask, is-up, refusal, step, after}
 use Rattle.definitions.specs.Settle.{moves, receiver, origin, kind, movable, letter-of, lowest, Ending, done, stopped, settle-from}
+use Rattle.definitions.specs.Checksum.{ones-sum, checksum}
+use Rattle.definitions.specs.Block.{body, block, check-of}
 use Rattle.world.specs.SettleLaws.{settle}
 
 -- ---- a row, and its lines: each something done and what is to be seen of it

@@ -12,16 +12,16 @@ use lib.Bits.{bitAnd}
 use lib.Dec.{ltb, eqb}
 use borrow.Author.Tests.{ltb-true, ltb-false, le-ltb, eqb-true, not-false}
 use Rattle.definitions.specs.General.{pick, first-from, bit, with, without, mask-of}
+use Rattle.definitions.specs.World.{Cell, size, count, up, marks, flight, State, put}
+use Rattle.definitions.specs.Machine.{leave, mark, arrival}
+use Rattle.definitions.specs.Steps.{is-up, in-flight}
+use Rattle.definitions.specs.Settle.{Choice, letter, nothing, moves, receiver, origin, kind, movable, letter-of, lowest}
 use Rattle.base.specs.Tests.{clash, bool-cases, both-l, both-r}
 use Rattle.base.specs.Search.{First, first-law, first-skip, first-end}
 use Rattle.base.specs.Bits.{mask-of-cong, bit-and, bit-zero, bit-mask-of}
-use Rattle.definitions.specs.World.{Cell, size, count, up, marks, flight, State, put}
 use Rattle.world.specs.Layout.{Within, put-other}
 use Rattle.world.specs.SoundLaws.{Sound, size-high, count-high}
-use Rattle.definitions.specs.Machine.{leave, mark, arrival}
 use Rattle.world.specs.StepLaws.{InFlight, lowest-moves}
-use Rattle.definitions.specs.Steps.{is-up, in-flight}
-use Rattle.definitions.specs.Settle.{Choice, letter, nothing, moves, receiver, origin, kind, movable, letter-of, lowest}
 use Rattle.quiescence.specs.Quiescent.{MarkOnly, arrival-size, arrival-count, arrival-up, arrival-letter}
 use Rattle.letters.specs.declared.Place.{Place}
 

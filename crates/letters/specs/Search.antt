@@ -9,12 +9,12 @@ use lib.Bits.{bitAnd}
 use lib.Dec.{ltb}
 use borrow.Author.Tests.{lt-ltb, le-ltb}
 use Rattle.definitions.specs.General.{pick, first-from, bit, with, mask-of}
-use Rattle.base.specs.Tests.{clash, le-or-lt}
-use Rattle.base.specs.Search.{First, first-law}
-use Rattle.base.specs.Bits.{bit-and, bit-zero, bit-mask-of}
 use Rattle.definitions.specs.World.{size, count, flight, State}
 use Rattle.definitions.specs.Steps.{is-up}
 use Rattle.definitions.specs.Settle.{Choice, letter, nothing, moves, receiver, origin, kind, movable, letter-of, lowest}
+use Rattle.base.specs.Tests.{clash, le-or-lt}
+use Rattle.base.specs.Search.{First, first-law}
+use Rattle.base.specs.Bits.{bit-and, bit-zero, bit-mask-of}
 
 -- ---- the lowest member below n
 -- a mask whose bits below n are those that pass: its lowest member is the first that passes, or lies past n

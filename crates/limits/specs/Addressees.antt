@@ -11,11 +11,11 @@ use lib.ListN.{length, getD, set}
 use lib.Seq.{getD-set-same, getD-set-other}
 use borrow.Author.Tests.{ltb-true, ltb-false, lt-ltb, le-ltb}
 use Rattle.definitions.specs.General.{pick, bit, with, mask-of}
+use Rattle.definitions.specs.World.{State, size, count, group, is-process, is-message}
+use Rattle.definitions.specs.Sound.{addressee, fit, fine}
+use Rattle.definitions.specs.Machine.{addressees}
 use Rattle.base.specs.Tests.{both-l}
 use Rattle.base.specs.Bits.{bit-zero}
-use Rattle.definitions.specs.World.{State, size, count, group, is-process, is-message}
-use Rattle.definitions.specs.Machine.{addressees}
-use Rattle.definitions.specs.Sound.{addressee, fit, fine}
 use Rattle.world.specs.SoundLaws.{word-le, addressees-bit}
 use Rattle.heads.specs.Known.{Placed}
 

@@ -13,10 +13,10 @@ use lib.Pow.{pow-pos, pow-mono}
 use lib.Seq.{getD-set-same, getD-set-other}
 use borrow.Author.Tests.{eq-eqb, ne-eqb, eqb-true}
 use Rattle.definitions.specs.General.{pick, some, bit, with, mask-of}
+use Rattle.definitions.specs.World.{State, group}
 use Rattle.base.specs.Tests.{both-l, both-r, both-i, same}
 use Rattle.base.specs.Search.{some-i, some-e}
 use Rattle.base.specs.Bits.{bit-zero, bit-or, bit-mask-of, mask-of-member}
-use Rattle.definitions.specs.World.{State, group}
 use Rattle.ranges.specs.Laws.{some-none, some-next}
 use Rattle.ranges.specs.Sets.{bit-ext}
 use Rattle.limits.specs.Addressees.{group-bit, mask-more}

@@ -7,8 +7,8 @@ use native.Mathlib.Omega.{arith}
 use lib.ListN.{getD, set}
 use Rattle.definitions.specs.General.{pick}
 use Rattle.definitions.specs.World.{Cell, fifo-length, causal-length, fifo, causal, addr, State, put, encode, view}
-use Rattle.world.specs.Layout.{Within, Changes, set-encode, reads-cell}
 use Rattle.definitions.specs.Words.{log-length, log-start}
+use Rattle.world.specs.Layout.{Within, Changes, set-encode, reads-cell}
 
 -- item i of the log of p, and its length
 abbrev pub item-cell : ℕ → Bool → ℕ → Cell

@@ -4,8 +4,8 @@ ghost use Prim.Native.Nat.{_<_};
 ghost use lib.ListN.{length};
 ghost use Rattle.definitions.specs.General.{pick};
 ghost use Rattle.definitions.specs.World.{addr, view};
-ghost use Rattle.world.specs.Layout.{Changes};
 ghost use Rattle.definitions.specs.Words.{log-length, log-start};
+ghost use Rattle.world.specs.Layout.{Changes};
 ghost use Rattle.logs.specs.Pushed.{length-cell, pushed};
 
 // What holds for the FIFO or for the causal log: one of two offsets in a process's block.

@@ -14,10 +14,10 @@ use lib.Dec.{lit<}
 use native.Mathlib.Nat.{one-mul}
 use borrow.Author.Tests.{eq-eqb, ne-eqb, lt-ltb, le-ltb, ltb-true, ltb-false}
 use Rattle.definitions.specs.General.{pick, tabulate, byte}
-use Rattle.base.specs.Tabulate.{getD-tabulate}
 use Rattle.definitions.specs.World.{Cell, size, count, rule, group, trust, counter, sequence, next, delivered, up, fifo-length, causal-length, held, marks, fifo, causal, sender, mask, stamp, number, flight, order, unused, addr, State, put, encode}
-use Rattle.world.specs.Layout.{Within, in-words, put-same, put-other, is-encode, encode-ext}
 use Rattle.definitions.specs.Setup.{setup-bits, setup-group, fresh, made}
+use Rattle.base.specs.Tabulate.{getD-tabulate}
+use Rattle.world.specs.Layout.{Within, in-words, put-same, put-other, is-encode, encode-ext}
 use Rattle.setup.specs.Groups.{group-in}
 use Rattle.records.specs.declared.Process.{Process}
 use Rattle.records.specs.Record.{with-record}

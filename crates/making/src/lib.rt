@@ -9,10 +9,10 @@ ghost use lib.Dec.{ltb};
 ghost use lib.ListN.{length};
 ghost use Rattle.definitions.specs.General.{pick};
 ghost use Rattle.definitions.specs.World.{encode};
-ghost use Rattle.world.specs.Layout.{Changes};
 ghost use Rattle.definitions.specs.Setup.{good-setup, made};
 ghost use Rattle.definitions.specs.Words.{making-refusal, made-words};
 ghost use Rattle.definitions.specs.Answers.{outcome-number};
+ghost use Rattle.world.specs.Layout.{Changes};
 ghost use Rattle.setup.specs.Groups.{group-in};
 ghost use Rattle.making.specs.Begun.{begun, first-nexts, begin-process};
 

@@ -11,15 +11,15 @@ use borrow.Author.Tests.{eq-eqb, ne-eqb, eqb-true}
 use lib.ListN.{length, getD, set, length-append, List·getD-append}
 use lib.Seq.{getD-append-add}
 use Rattle.definitions.specs.General.{pick, bit, tabulate}
+use Rattle.definitions.specs.World.{Cell, size, count, rule, group, trust, counter, sequence, next, delivered, up, fifo-length, causal-length, held, marks, fifo, causal, sender, mask, stamp, number, flight, order, unused, addr, State, put, encode, view}
+use Rattle.definitions.specs.Machine.{with-tables, raised, stamped, numbered, posted, multicast}
 use Rattle.base.specs.Tests.{pick-yes, pick-no, le-or-lt, eqb-refl}
 use Rattle.base.specs.Tabulate.{splice, length-tabulate, getD-tabulate, splice-append}
-use Rattle.definitions.specs.World.{Cell, size, count, rule, group, trust, counter, sequence, next, delivered, up, fifo-length, causal-length, held, marks, fifo, causal, sender, mask, stamp, number, flight, order, unused, addr, State, put, encode, view}
 use Rattle.world.specs.Layout.{Within, Reads, Changes, put-at, length-encode, encode-view, encode-ext, set-encode, splice-encode, reads-cell}
-use Rattle.definitions.specs.Machine.{with-tables, raised, stamped, numbered, posted, multicast}
 use Rattle.world.specs.SoundLaws.{Sound, count-high, counter-high, sequence-high}
-use Rattle.bounds.specs.Bounds.{Bounds}
 use Rattle.records.specs.declared.Process.{Process}
 use Rattle.records.specs.Record.{record-of, with-record, pick-to}
+use Rattle.bounds.specs.Bounds.{Bounds}
 use Rattle.sends.specs.Sends.{sent}
 use Rattle.multicasts.specs.Raise.{bumps, bumped, not-bumped, raised-below, Below, Low, below-tabulate}
 

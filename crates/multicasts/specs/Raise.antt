@@ -14,8 +14,8 @@ use borrow.Author.Tests.{ltb-true, ltb-false}
 use lib.ListN.{length, getD, set, length-set, List·getD-eq-default}
 use lib.Seq.{getD-set-same, getD-set-other, set-out}
 use Rattle.definitions.specs.General.{pick, bit, tabulate}
-use Rattle.base.specs.Tabulate.{length-tabulate, getD-tabulate}
 use Rattle.definitions.specs.World.{counter, sequence, State}
+use Rattle.base.specs.Tabulate.{length-tabulate, getD-tabulate}
 use Rattle.records.specs.declared.Process.{Process}
 
 -- ---- entries of a list raised

@@ -9,14 +9,14 @@ use Prim.Native.Nat.{ℕ, suc, _+_, _-_, _≤_, _<_}
 use native.Mathlib.Omega.{arith}
 use lib.Dec.{leb, eqb}
 use borrow.Author.Tests.{eqb-true, eqb-false, ne-eqb, leb-true, leb-false}
-use Rattle.base.specs.Tests.{clash, both-l, both-r, either, at-or-off}
 use Rattle.definitions.specs.General.{every, In}
-use Rattle.base.specs.Search.{every-true, every-false}
-use Rattle.base.specs.Loop.{loop-keeps}
-use Rattle.base.specs.Count.{absent-out, out-absent, in-dec}
 use Rattle.definitions.specs.World.{size, count, group, fifo-length, causal-length, fifo, causal, next, delivered, held, sender, stamp, number, State, put, addressed, outside-fifo, outside-causal}
 use Rattle.definitions.specs.Machine.{with-tables, in-turn, marked, ready, fits, deliverable, deliverable-at, merge, causal-one, causal-all, appended, raised-next, fifo-one, cascade}
 use Rattle.definitions.specs.History.{Event, got, deliveries, grown}
+use Rattle.base.specs.Tests.{clash, both-l, both-r, either, at-or-off}
+use Rattle.base.specs.Search.{every-true, every-false}
+use Rattle.base.specs.Loop.{loop-keeps}
+use Rattle.base.specs.Count.{absent-out, out-absent, in-dec}
 use Rattle.world.specs.Fuel.{causal-ends}
 use Rattle.effects.specs.Holding.{HeldTo, held-to}
 use Rattle.effects.specs.Events.{deliveries-same}

@@ -11,10 +11,10 @@ use native.Mathlib.Omega.{arith}
 use native.Mathlib.Numerals.{add-one}
 use lib.Dec.{eqb}
 use borrow.Author.Tests.{eqb-true, ne-eqb}
-use Rattle.base.specs.Tests.{at-or-off, either-l, bool-cases, le-or-lt, clash, both, either, both-l, both-r, both-i, eqb-refl}
 use Rattle.definitions.specs.General.{pick, tally, bit}
-use Rattle.base.specs.Count.{tally-mono, tally-cong, tally-falls, tally-max}
 use Rattle.definitions.specs.History.{sent, got}
+use Rattle.base.specs.Tests.{at-or-off, either-l, bool-cases, le-or-lt, clash, both, either, both-l, both-r, both-i, eqb-refl}
+use Rattle.base.specs.Count.{tally-mono, tally-cong, tally-falls, tally-max}
 use Rattle.effects.specs.Views.{Messages}
 use Rattle.order.specs.Knowledge.{Knowledge, learn, Closed, closed-got, before-new, before-old, closed-sent}
 

@@ -12,9 +12,9 @@ use native.Mathlib.Nat.{not-suc-le-zero}
 use native.Mathlib.Decide.{ℕ-discrete}
 use lib.Dec.{eqb}
 use borrow.Author.Tests.{eqb-true, eq-eqb, ne-eqb}
-use Rattle.base.specs.Tests.{clash, both, either, both-i, either-e, either-l, either-r}
 use Rattle.definitions.specs.General.{pick}
 use Rattle.definitions.specs.History.{Event, sent, got}
+use Rattle.base.specs.Tests.{clash, both, either, both-i, either-e, either-l, either-r}
 
 -- ---- the sets
 pub record Knowledge : Type 0 where

@@ -9,10 +9,10 @@ use Prim.Native.Nat.{ℕ, _+_, _≤_, _<_}
 use native.Mathlib.Omega.{arith}
 use native.Mathlib.Decide.{ℕ-discrete}
 use borrow.Author.Tests.{ne-eqb}
-use Rattle.base.specs.Tests.{le-or-lt, pick-yes, pick-no, eqb-refl, at-or-off}
 use Rattle.definitions.specs.General.{In, in-at}
-use Rattle.base.specs.Count.{in-wider}
 use Rattle.definitions.specs.History.{sent}
+use Rattle.base.specs.Tests.{le-or-lt, pick-yes, pick-no, eqb-refl, at-or-off}
+use Rattle.base.specs.Count.{in-wider}
 use Rattle.effects.specs.Views.{Messages, Process}
 use Rattle.effects.specs.Cascade.{at-place, fifo-delivered, causal-delivered}
 use Rattle.order.specs.Knowledge.{Knowledge, learn}

@@ -10,11 +10,11 @@ use native.Mathlib.Numerals.{add-one}
 use lib.Dec.{eqb}
 use borrow.Author.Tests.{ne-eqb}
 use Rattle.definitions.specs.General.{pick, bit}
-use Rattle.base.specs.Tests.{pick-no, both, eqb-refl}
 use Rattle.definitions.specs.World.{size, count, counter, sequence, causal-length, sender, mask, stamp, number, State, put}
-use Rattle.world.specs.Layout.{put-same, put-other}
 use Rattle.definitions.specs.Machine.{with-tables, raised, stamped, numbered, posted, multicast}
 use Rattle.definitions.specs.History.{Event, sent}
+use Rattle.base.specs.Tests.{pick-no, both, eqb-refl}
+use Rattle.world.specs.Layout.{put-same, put-other}
 use Rattle.effects.specs.Views.{messages, process as own}
 use Rattle.order.specs.Knowledge.{knowledge}
 use Rattle.order.specs.Counters.{own-all, OneMore, counting-sent, counter-sent, all-more}

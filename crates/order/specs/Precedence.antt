@@ -13,9 +13,9 @@ use native.Mathlib.Decide.{ℕ-discrete}
 use lib.Dec.{eqb}
 use lib.ListN.{length}
 use borrow.Author.Tests.{eqb-true, eq-eqb, ne-eqb}
-use Rattle.base.specs.Tests.{clash, pick-yes, pick-no, eqb-refl, both, both-l, both-r, both-i, either-e, either-l}
 use Rattle.definitions.specs.General.{pick}
 use Rattle.definitions.specs.History.{Event, sent, got, who, At, here, there, Precedes, same, carried, chain, Before, casts}
+use Rattle.base.specs.Tests.{clash, pick-yes, pick-no, eqb-refl, both, both-l, both-r, both-i, either-e, either-l}
 use Rattle.order.specs.Knowledge.{Knowledge, learn, knowledge, past-grows, before-new, before-old}
 
 -- ---- a history of n messages: each is multicast once, in the order of the numbers

@@ -9,15 +9,15 @@ use Prim.Native.Nat.{ℕ, suc, _-_, _<_}
 use native.Mathlib.Omega.{arith}
 use native.Mathlib.Nat.{not-suc-le-zero}
 use lib.Dec.{ltb}
-use Rattle.base.specs.Tests.{pick-le, both}
 use Rattle.definitions.specs.General.{tally, byte}
 use Rattle.definitions.specs.World.{size, count, trust, causal-length, sender, up, State, put}
-use Rattle.world.specs.SoundLaws.{Sound}
 use Rattle.definitions.specs.Setup.{fresh, setup-group, setup-refusal, made}
 use Rattle.definitions.specs.Machine.{cascade, multicast, leave, received, arrival, trust-set, crash}
 use Rattle.definitions.specs.Steps.{Step, multicasts, arrives, loses, trusts, crashes, malformed, accepted, step}
-use Rattle.world.specs.StepLaws.{accepted-multicast, accepted-arrival, accepted-trust}
 use Rattle.definitions.specs.History.{Event, sent, At, here, there, gained, Run, Item, taken, act, run}
+use Rattle.base.specs.Tests.{pick-le, both}
+use Rattle.world.specs.SoundLaws.{Sound}
+use Rattle.world.specs.StepLaws.{accepted-multicast, accepted-arrival, accepted-trust}
 use Rattle.world.specs.Runs.{on-states, started}
 use Rattle.keeps.specs.Keeps.{fresh-sound, step-sound}
 use Rattle.effects.specs.Views.{Messages, messages, Process, Scene, scene, Still, process as own}

@@ -11,8 +11,8 @@ use lib.Dec.{eqb}
 use lib.ListN.{length, take, drop, getD, replicate, length-append, length-replicate, length-drop, drop-of-length-le}
 use lib.Seq.{take-suc, take-length, take-at, length-take-le}
 use borrow.Author.Tests.{eq-eqb, ne-eqb, eqb-true}
-use Rattle.base.specs.Tests.{both-l, both-r}
 use Rattle.definitions.specs.General.{filled, all-zero}
+use Rattle.base.specs.Tests.{both-l, both-r}
 
 pub length-filled : (n : ℕ) (s : List ℕ) → length s ≤ n → length (filled n s) ≡ n
 unfolding filled

@@ -8,17 +8,17 @@ use Prim.Native.Nat.{ℕ, _+_, _-_, _≤_, _<_}
 use native.Mathlib.Omega.{arith}
 use native.Mathlib.Decide.{ℕ-discrete}
 use lib.Dec.{eqb}
-use Rattle.base.specs.Tests.{clash, le-or-lt}
 use Rattle.definitions.specs.General.{every, first-from, chosen, bit}
+use Rattle.definitions.specs.World.{Cell, size, count, rule, group, trust, counter, sequence, next, delivered, up, fifo-length, causal-length, held, marks, fifo, causal, sender, mask, stamp, number, flight, order, unused, State, put, addressed, outside-fifo}
+use Rattle.definitions.specs.Machine.{with-tables, in-turn, marked, ready, merge, causal-one, causal-all, appended, raised-next, send-oks, fifo-one, cascade, leave, mark, received, arrival}
+use Rattle.base.specs.Tests.{clash, le-or-lt}
 use Rattle.base.specs.Search.{every-cong, first-law}
 use Rattle.base.specs.Count.{absent-cong}
 use Rattle.base.specs.Loop.{loop-stops}
-use Rattle.definitions.specs.World.{Cell, size, count, rule, group, trust, counter, sequence, next, delivered, up, fifo-length, causal-length, held, marks, fifo, causal, sender, mask, stamp, number, flight, order, unused, State, put, addressed, outside-fifo}
 use Rattle.world.specs.Layout.{put-other}
 use Rattle.world.specs.SoundLaws.{Sound}
 use Rattle.world.specs.Kept.{causal-all-keeps, oks-keep, cascade-keeps, received-keeps}
 use Rattle.world.specs.Local.{Own, other-away, cascade-away}
-use Rattle.definitions.specs.Machine.{with-tables, in-turn, marked, ready, merge, causal-one, causal-all, appended, raised-next, send-oks, fifo-one, cascade, leave, mark, received, arrival}
 use Rattle.world.specs.Fuel.{cascade-ends}
 use Rattle.world.specs.StepLaws.{InFlight}
 use Rattle.keeps.specs.Cascade.{received-sound}

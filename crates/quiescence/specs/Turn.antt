@@ -9,14 +9,14 @@ use native.Mathlib.Omega.{arith}
 use native.Mathlib.Decide.{ℕ-discrete}
 use lib.Dec.{eqb}
 use borrow.Author.Tests.{eq-eqb}
-use Rattle.base.specs.Tests.{bool-cases, clash, both, both-l, both-r, both-i, le-or-lt}
 use Rattle.definitions.specs.General.{every, first-from, in-at}
+use Rattle.definitions.specs.World.{size, count, rule, group, trust, counter, sequence, next, delivered, up, fifo-length, causal-length, held, marks, fifo, causal, sender, mask, stamp, number, flight, order, unused, State, put, Cell-discrete, outside-fifo}
+use Rattle.definitions.specs.Machine.{with-tables, in-turn, marked, ready, merge, causal-one, causal-all, appended, raised-next, due, send-oks, fifo-one}
+use Rattle.base.specs.Tests.{bool-cases, clash, both, both-l, both-r, both-i, le-or-lt}
 use Rattle.base.specs.Search.{first-law}
 use Rattle.base.specs.Count.{absent-out, out-absent}
-use Rattle.definitions.specs.World.{size, count, rule, group, trust, counter, sequence, next, delivered, up, fifo-length, causal-length, held, marks, fifo, causal, sender, mask, stamp, number, flight, order, unused, State, put, Cell-discrete, outside-fifo}
 use Rattle.world.specs.Layout.{put-same, put-other}
 use Rattle.world.specs.Kept.{causal-all-keeps, oks-keep}
-use Rattle.definitions.specs.Machine.{with-tables, in-turn, marked, ready, merge, causal-one, causal-all, appended, raised-next, due, send-oks, fifo-one}
 use Rattle.quiescence.specs.Quiescent.{Quiescent, OnlyReady, Same, the-count, causal-all-fixed, fifo-one-fixed, put-same-test, ready-same}
 
 -- all messages that are ready at p have the sender of m

@@ -9,8 +9,8 @@ use native.Mathlib.Decide.{ℕ-discrete}
 use lib.Bits.{bitOr, bitAnd, or-add-and, and-le-l, and-le-r}
 use lib.Dec.{ltb, eqb}
 use borrow.Author.Tests.{ltb-true, ltb-false, eq-eqb, ne-eqb}
-use Rattle.base.specs.Tests.{both, both-l, both-r, both-i, same}
 use Rattle.definitions.specs.General.{every, some}
+use Rattle.base.specs.Tests.{both, both-l, both-r, both-i, same}
 use Rattle.base.specs.Search.{every-true, every-intro}
 
 pub and-swap : (a b : Bool) → (a && b) ≡ (b && a)

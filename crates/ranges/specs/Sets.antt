@@ -9,8 +9,8 @@ use lib.Dec.{ltb, eqb}
 use lib.Bits.{bitAnd, and-le-l}
 use lib.Pow.{shr-shr, pow-pos}
 use borrow.Author.Tests.{eq-eqb, eqb-true, eqb-false, ltb-true, ltb-false, le-ltb}
-use Rattle.base.specs.Tests.{clash, bool-cases, same}
 use Rattle.definitions.specs.General.{bit, only}
+use Rattle.base.specs.Tests.{clash, bool-cases, same}
 use Rattle.base.specs.Bits.{bit-zero, bit-high, bit-and, only-i, only-e}
 
 half : (a q : ℕ) → a / 2 ^ suc q ≡ a / 2 / 2 ^ q

@@ -9,13 +9,13 @@ use lib.Dec.{eqb, ltb}
 use lib.ListN.{length, take, drop}
 use borrow.Author.Tests.{eq-eqb, ne-eqb, lt-ltb, le-ltb, eqb-true, ltb-true}
 use Rattle.definitions.specs.General.{pick, needs, gives, refuses}
-use Rattle.base.specs.Refusals.{needs-none, reply-gives, reply-refuses}
 use Rattle.definitions.specs.World.{size, encode, view, is-process}
-use Rattle.world.specs.Layout.{encode-view}
 use Rattle.definitions.specs.Sound.{sound}
-use Rattle.world.specs.SoundLaws.{sound-facts, size-high, count-high, fifo-length-high, causal-length-high}
 use Rattle.definitions.specs.Steps.{read, refusal, accepted, step, after}
 use Rattle.definitions.specs.Words.{needs-world, step-words, step-refusal, stepped-words, settle-words, settled-words, settle-reply, log-length, log-start, log-refusal, log-words, length-reply}
+use Rattle.base.specs.Refusals.{needs-none, reply-gives, reply-refuses}
+use Rattle.world.specs.Layout.{encode-view}
+use Rattle.world.specs.SoundLaws.{sound-facts, size-high, count-high, fifo-length-high, causal-length-high}
 use Rattle.keeps.specs.Keeps.{SoundWords}
 
 -- ---- the world

@@ -8,18 +8,18 @@ use lib.Bits.{bitAnd, bitXor}
 use lib.Dec.{ltb, eqb}
 use borrow.Author.Tests.{lt-ltb, le-ltb, ltb-true, eqb-true, eq-eqb, ne-eqb, not-true}
 use mathlib.Core.Logic.{_⊎_, inl, inr}
-use Rattle.base.specs.Tests.{bool-cases, same, both, both-l, both-r, either}
 use Rattle.definitions.specs.General.{bit, every, first-from, tally, absent, chosen}
+use Rattle.definitions.specs.World.{size, count, trust, fifo-length, held, marks, fifo, sender, State, encode, view, addressed, outside-fifo}
+use Rattle.definitions.specs.Sound.{addressee}
+use Rattle.definitions.specs.Machine.{addressees, in-turn, marked, ready, fifo-one}
+use Rattle.base.specs.Tests.{bool-cases, same, both, both-l, both-r, either}
 use Rattle.base.specs.Bits.{differs, bit-and, bit-xor, bit-mask-of, bit-mask-of-above}
 use Rattle.base.specs.Search.{every-true, every-intro, every-fails, every-cong, first-law, first-cong}
 use Rattle.base.specs.Count.{tally-past, tally-zero, tally-cong, tally-pos}
-use Rattle.definitions.specs.World.{size, count, trust, fifo-length, held, marks, fifo, sender, State, encode, view, addressed, outside-fifo}
 use Rattle.world.specs.Layout.{Reads, get-encode, reads-cell}
-use Rattle.definitions.specs.Sound.{addressee}
-use Rattle.definitions.specs.Machine.{addressees, in-turn, marked, ready, fifo-one}
-use Rattle.bounds.specs.Bounds.{Bounds, bounds-state}
 use Rattle.quiescence.specs.Quiescent.{Quiescent}
 use Rattle.quiescence.specs.Turn.{OneSender, OneSenderIf}
+use Rattle.bounds.specs.Bounds.{Bounds, bounds-state}
 use Rattle.sends.specs.Sends.{addressed-words, in-turn-words}
 
 -- ---- what the test reads off the words of s is so of s

@@ -5,8 +5,8 @@ ghost use Prim.Native.Nat.{_<_};
 ghost use lib.ListN.{length};
 ghost use Rattle.definitions.specs.General.{every, first-from, tally};
 ghost use Rattle.definitions.specs.World.{size, count, held, view};
-ghost use Rattle.world.specs.Layout.{Reads};
 ghost use Rattle.definitions.specs.Machine.{marked, ready};
+ghost use Rattle.world.specs.Layout.{Reads};
 ghost use Rattle.bounds.specs.Bounds.{Bounds};
 ghost use Rattle.ready.specs.Ready.{trusted-unmarked, waits-lowest, unmarked, cleared, searched};
 

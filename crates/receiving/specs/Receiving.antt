@@ -8,8 +8,8 @@ use borrow.Author.Tests.{eq-eqb, ne-eqb}
 use lib.ListN.{length, set}
 use Rattle.definitions.specs.General.{with, without, pick}
 use Rattle.definitions.specs.World.{held, marks, flight, addr, State, put, encode, view}
-use Rattle.world.specs.Layout.{Reads, Changes, set-encode, reads-cell}
 use Rattle.definitions.specs.Machine.{addressees, in-turn, leave, mark, hold}
+use Rattle.world.specs.Layout.{Reads, Changes, set-encode, reads-cell}
 use Rattle.bounds.specs.Bounds.{Bounds, bounds-state, bounds-stored}
 use Rattle.sends.specs.Sends.{sent, in-turn-words}
 

@@ -6,8 +6,8 @@ ghost use lib.Dec.{eqb};
 ghost use lib.ListN.{length};
 ghost use Rattle.definitions.specs.General.{pick};
 ghost use Rattle.definitions.specs.World.{held, view};
-ghost use Rattle.world.specs.Layout.{Reads, Changes};
 ghost use Rattle.definitions.specs.Machine.{leave, mark, hold};
+ghost use Rattle.world.specs.Layout.{Reads, Changes};
 ghost use Rattle.bounds.specs.Bounds.{Bounds};
 
 // The letter leaves flight.

@@ -8,10 +8,10 @@ use lib.Dec.{eqb}
 use borrow.Author.Tests.{eq-eqb, ne-eqb, eqb-true}
 use lib.ListN.{length, take, drop, getD, set, length-append, List·getD-append}
 use lib.Seq.{getD-append-add}
-use Rattle.base.specs.Tabulate.{splice, splice-two, splice-append}
 use Rattle.definitions.specs.General.{tabulate, pick}
-use Rattle.world.specs.Layout.{length-encode, get-encode, part-encode, splice-encode, Within, Reads, Changes}
 use Rattle.definitions.specs.World.{rule, order, Cell, size, count, group, trust, counter, sequence, next, delivered, up, fifo-length, causal-length, held, marks, fifo, causal, sender, mask, stamp, number, flight, unused, addr, State, encode}
+use Rattle.base.specs.Tabulate.{splice, splice-two, splice-append}
+use Rattle.world.specs.Layout.{length-encode, get-encode, part-encode, splice-encode, Within, Reads, Changes}
 use Rattle.records.specs.declared.Process.{Process}
 
 -- p's record

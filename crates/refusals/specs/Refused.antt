@@ -8,13 +8,13 @@ use lib.Dec.{ltb, eqb}
 use lib.Pow.{pow-pos}
 use borrow.Author.Tests.{eq-eqb, ne-eqb, ltb-true, ltb-false}
 use Rattle.definitions.specs.General.{pick, bit, only, needs, or-else}
-use Rattle.base.specs.Tests.{both, both-l, both-r}
 use Rattle.definitions.specs.World.{size, count, State, has-group, is-process, is-message}
-use Rattle.base.specs.Refusals.{needs-none}
 use Rattle.definitions.specs.Steps.{good-mask, is-up, in-flight, refusal, multicasts, arrives, loses}
 use Rattle.definitions.specs.Answers.{outcome-number}
 use Rattle.definitions.specs.declared.Outcome.{Outcome}
 use Rattle.definitions.specs.declared.Outcome.the-variants.{Taken}
+use Rattle.base.specs.Tests.{both, both-l, both-r}
+use Rattle.base.specs.Refusals.{needs-none}
 use Rattle.answers.specs.Laws.{taken-zero}
 use Rattle.bounds.specs.Bounds.{Bounds}
 

@@ -10,10 +10,10 @@ use lib.Dec.{eqb}
 use lib.ListN.{getD}
 use borrow.Author.Tests.{eq-eqb, ne-eqb, eqb-true, lt-ltb}
 use Rattle.definitions.specs.General.{pick, every, bit, with, only}
-use Rattle.base.specs.Tests.{same}
-use Rattle.base.specs.Bits.{bit-zero, bit-with}
 use Rattle.definitions.specs.World.{State, count, sender, flight, view, is-message}
 use Rattle.definitions.specs.Sound.{addressee, sends, word, fit, fine}
+use Rattle.base.specs.Tests.{same}
+use Rattle.base.specs.Bits.{bit-zero, bit-with}
 use Rattle.limits.specs.Addressees.{addressees-of, addressee-bit}
 use Rattle.regions.specs.Runs.{fine-run, run-of}
 use Rattle.regions.specs.Rows.{addressees-only}

@@ -12,9 +12,9 @@ use lib.ListN.{length, getD, set}
 use lib.Seq.{getD-set-same, getD-set-other}
 use borrow.Author.Tests.{eq-eqb, ne-eqb, lt-ltb}
 use Rattle.definitions.specs.General.{pick, every, tally}
-use Rattle.base.specs.Count.{tally-le}
 use Rattle.definitions.specs.World.{size, next, fifo-length, view, is-process}
 use Rattle.definitions.specs.Sound.{word, logged-of, fit, fine}
+use Rattle.base.specs.Count.{tally-le}
 use Rattle.regions.specs.Runs.{fine-run, run-of}
 use Rattle.regions.specs.Rows.{Block}
 

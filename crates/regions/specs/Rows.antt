@@ -8,10 +8,10 @@ use lib.Bits.{bitAnd}
 use lib.Dec.{leb, eqb}
 use lib.ListN.{length, getD}
 use Rattle.definitions.specs.General.{pick, every, bit, only}
-use Rattle.base.specs.Tests.{both, both-l}
-use Rattle.base.specs.Search.{every-cong}
 use Rattle.definitions.specs.World.{State, size, held, marks, view, is-message}
 use Rattle.definitions.specs.Sound.{addressee, word, fit, fine}
+use Rattle.base.specs.Tests.{both, both-l}
+use Rattle.base.specs.Search.{every-cong}
 use Rattle.ranges.specs.Sets.{subset-only}
 use Rattle.limits.specs.Addressees.{Addressees, addressees-of, addressee-bit}
 use Rattle.regions.specs.Runs.{fine-run, run-of, every-both}

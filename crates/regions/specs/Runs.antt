@@ -3,12 +3,12 @@ use mathlib.Core.Path.{_≡_, refl, sym, ap, _∙_}
 use mathlib.Core.Bool.{Bool, true, false, _&&_}
 use Prim.Native.Nat.{ℕ, _+_, _-_, _≤_, _<_}
 use native.Mathlib.Omega.{arith}
-use Rattle.base.specs.Tests.{both, both-l, both-r, both-i, same}
 use Rattle.definitions.specs.General.{every}
-use Rattle.base.specs.Search.{every-true, every-intro, every-cong}
 use Rattle.definitions.specs.World.{Cell, State, addr, cell-at}
-use Rattle.world.specs.Layout.{Within, cell-at-addr}
 use Rattle.definitions.specs.Sound.{fine}
+use Rattle.base.specs.Tests.{both, both-l, both-r, both-i, same}
+use Rattle.base.specs.Search.{every-true, every-intro, every-cong}
+use Rattle.world.specs.Layout.{Within, cell-at-addr}
 use Rattle.ranges.specs.Laws.{every-split}
 
 -- The n words from a on are fine.

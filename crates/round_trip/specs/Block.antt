@@ -10,10 +10,10 @@ use lib.ListN.{length, getD, take, drop, replicate, length-drop, length-replicat
 use lib.Seq.{take-at, drop-at, drop-cons, drop-drop, getD-at, getD-append-add, length-take-le}
 use borrow.Author.Tests.{eq-eqb}
 use Rattle.definitions.specs.General.{filled, Bytes}
-use Rattle.parts.specs.Laws.{zeros-are, replicate-zero}
 use Rattle.definitions.specs.Checksum.{checksum}
-use Rattle.checksum.specs.Laws.{checksum-front}
 use Rattle.definitions.specs.Block.{body, block, count-of, records-in, unused-in, right-check, right-count, right-form, block-refusal}
+use Rattle.parts.specs.Laws.{zeros-are, replicate-zero}
+use Rattle.checksum.specs.Laws.{checksum-front}
 use Rattle.block.specs.Laws.{length-body, count-small, Formed, taken, length-records-in}
 
 -- ---- the decomposition

@@ -11,11 +11,11 @@ use lib.ListN.{length, getD, take, drop, length-append, length-drop, length-take
 use lib.Seq.{take-all, take-at, drop-at, length-take-le, getD-drop, getD-take}
 use borrow.Author.Tests.{eq-eqb, ne-eqb, le-leb, ltb-true, ltb-false}
 use Rattle.definitions.specs.General.{needs, Bytes}
-use Rattle.base.specs.Refusals.{needs-none, or-else-none}
 use Rattle.definitions.specs.Block.{block, count-of, records-in, right-count, block-refusal}
-use Rattle.block.specs.Laws.{length-block, count-small, count-full, taken, length-records-in}
 use Rattle.definitions.specs.Journal.{blocks-of, blocks-for, journal-of, right-records, write-refusal, written, right-length, blocks-refusal, journal-refusal, records-from, records-of, read-refusal, read-out}
 use Rattle.definitions.specs.Demand.{RoundTrip}
+use Rattle.base.specs.Refusals.{needs-none, or-else-none}
+use Rattle.block.specs.Laws.{length-block, count-small, count-full, taken, length-records-in}
 use Rattle.journal.specs.Writing.{RightRecords, records-right, right-of}
 use Rattle.journal.specs.Reading.{accepted, whole-records}
 use Rattle.round_trip.specs.Block.{records-back, block-good, block-back}

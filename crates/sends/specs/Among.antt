@@ -7,11 +7,11 @@ use native.Mathlib.Omega.{arith}
 use native.Mathlib.Decide.{ℕ-discrete}
 use lib.Bits.{bitAnd, and-le-l, or-lt}
 use lib.Pow.{pow-pos, pow-lt}
-use Rattle.base.specs.Tests.{bool-cases, clash, both, le-or-lt}
 use Rattle.definitions.specs.General.{pick, first-from, bit, with, without, mask-of}
+use Rattle.base.specs.Tests.{bool-cases, clash, both, le-or-lt}
 use Rattle.base.specs.Search.{first-law}
-use Rattle.ranges.specs.Sets.{bit-ext}
 use Rattle.base.specs.Bits.{bit-and, bit-zero, bit-mask-of, bit-mask-of-above, with-hit, with-other, without-hit, without-other, without-old, or-with}
+use Rattle.ranges.specs.Sets.{bit-ext}
 
 -- without a member a mask is less
 pub without-less : (x q : ℕ) → bit x q ≡ true → x ≢ 0 → without x q < x

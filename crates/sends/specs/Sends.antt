@@ -10,12 +10,12 @@ use lib.Dec.{eqb}
 use borrow.Author.Tests.{eq-eqb, ne-eqb}
 use lib.ListN.{set}
 use Rattle.definitions.specs.General.{bit, with, mask-of, pick, some}
+use Rattle.definitions.specs.World.{size, group, next, held, sender, mask, number, flight, addr, State, put, encode, view, addressed}
+use Rattle.definitions.specs.Machine.{addressees, in-turn, due, send-ok, send-oks}
 use Rattle.base.specs.Bits.{mask-of-cong}
 use Rattle.base.specs.Tests.{both, either}
-use Rattle.ranges.specs.Laws.{some-none, some-next}
-use Rattle.definitions.specs.World.{size, group, next, held, sender, mask, number, flight, addr, State, put, encode, view, addressed}
 use Rattle.world.specs.Layout.{Reads, Changes, get-encode, set-encode}
-use Rattle.definitions.specs.Machine.{addressees, in-turn, due, send-ok, send-oks}
+use Rattle.ranges.specs.Laws.{some-none, some-next}
 use Rattle.bounds.specs.Bounds.{Bounds, bounds-state}
 
 -- s with letters of kind k for m from p in flight to all addressees

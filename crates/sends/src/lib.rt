@@ -7,8 +7,8 @@ ghost use Rattle.definitions.specs.General.{with, pick, some};
 ghost use Rattle.definitions.specs.World.{addressed, view, count};
 ghost use Rattle.definitions.specs.Machine.{addressees, in-turn, due, send-ok, send-oks};
 ghost use Rattle.world.specs.Layout.{Reads, Changes};
-ghost use Rattle.sends.specs.Sends.{sent};
 ghost use Rattle.bounds.specs.Bounds.{Bounds};
+ghost use Rattle.sends.specs.Sends.{sent};
 
 // Whether process q is an addressee of message m.
 pub fn is_addressed(w: &[u16], m: usize, q: usize) -> bool

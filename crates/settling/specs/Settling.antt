@@ -6,22 +6,22 @@ use mathlib.Core.Logic.{_⊎_, inl, inr}
 use mathlib.Core.List.{List}
 use Prim.Native.Nat.{ℕ, zero, suc, _+_, _-_, _≤_, _<_}
 use native.Mathlib.Omega.{arith}
-use Rattle.base.specs.Tests.{clash}
 use Rattle.definitions.specs.General.{bit, with, mask-of}
-use Rattle.base.specs.Bits.{bit-zero, with-cases}
 use Rattle.definitions.specs.World.{size, count, State, encode, view}
+use Rattle.definitions.specs.Machine.{arrival}
+use Rattle.definitions.specs.Steps.{arrives, step, is-up}
+use Rattle.definitions.specs.Settle.{Choice, letter, nothing, done, stopped, Settled, lowest, settle-from}
+use Rattle.base.specs.Tests.{clash}
+use Rattle.base.specs.Bits.{bit-zero, with-cases}
 use Rattle.world.specs.SoundLaws.{size-high, count-high, sound-words}
 use Rattle.world.specs.Layout.{length-encode, get-encode}
-use Rattle.definitions.specs.Steps.{arrives, step, is-up}
 use Rattle.world.specs.StepLaws.{moves-taken, lowest-moves}
 use Rattle.keeps.specs.Keeps.{SoundWords, step-sound}
-use Rattle.definitions.specs.Machine.{arrival}
 use Rattle.quiescence.specs.Quiescent.{MarkOnly, Quiescent, QuiescentIf, arrival-quiescent}
 use Rattle.bounds.specs.Bounds.{sound-bounds}
 use Rattle.ready.specs.Ready.{quiescent-words}
 use Rattle.letters.specs.Places.{Passed, next-place, start-passed, still-up, passed-on}
 use Rattle.letters.specs.declared.Place.{Place}
-use Rattle.definitions.specs.Settle.{Choice, letter, nothing, done, stopped, Settled, lowest, settle-from}
 
 -- The choice and the arrival, on words.
 abbrev pub choose-words : List ℕ → Choice

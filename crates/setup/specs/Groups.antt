@@ -7,10 +7,10 @@ use native.Mathlib.Omega.{arith}
 use lib.Dec.{leb, eqb}
 use lib.ListN.{length}
 use borrow.Author.Tests.{eq-eqb, ne-eqb, le-leb, lt-leb, eqb-true, leb-true}
-use Rattle.base.specs.Tests.{both-l, both-r}
 use Rattle.definitions.specs.General.{every, byte}
 use Rattle.definitions.specs.World.{has-group}
 use Rattle.definitions.specs.Setup.{fresh, setup-bits, setup-group, made, good-setup}
+use Rattle.base.specs.Tests.{both-l, both-r}
 
 -- The group of process i.
 unfoldable pub group-in : ℕ → ℕ → ℕ

@@ -3,10 +3,10 @@ use mathlib.Core.Path.{_≡_, sym}
 use mathlib.Core.List.{List}
 use Prim.Native.Nat.{ℕ, _<_}
 use lib.ListN.{length, set}
-use Rattle.bounds.specs.Bounds.{Bounds, bounds-stored}
 use Rattle.definitions.specs.World.{trust, up, addr, put, encode, view}
-use Rattle.world.specs.Layout.{Changes, encode-view, changes-put, changes-own}
 use Rattle.definitions.specs.Machine.{cascade, trust-set, crash}
+use Rattle.world.specs.Layout.{Changes, encode-view, changes-put, changes-own}
+use Rattle.bounds.specs.Bounds.{Bounds, bounds-stored}
 
 -- the words with another trust set keep the bounds
 pub bounds-trust : (w : List ℕ) (p v : ℕ) → length w ≡ 20480 → p < 16 → Bounds (view w)

@@ -2,9 +2,9 @@
 ghost use mathlib.Core.Path.{_≡_};
 ghost use Prim.Native.Nat.{_<_};
 ghost use lib.ListN.{length};
-ghost use Rattle.bounds.specs.Bounds.{Bounds};
 ghost use Rattle.definitions.specs.World.{view, encode};
 ghost use Rattle.definitions.specs.Machine.{leave, trust-set, crash};
+ghost use Rattle.bounds.specs.Bounds.{Bounds};
 
 // The letter of kind k for message m from q to p is lost.
 pub fn lose(w: &mut [u16], k: usize, m: usize, q: usize, p: usize)

@@ -9,19 +9,19 @@ use borrow.Author.Tests.{eq-eqb, ne-eqb}
 use lib.ListN.{length}
 use Rattle.definitions.specs.General.{pick}
 use Rattle.definitions.specs.World.{size, count, State, encode, view}
-use Rattle.world.specs.Layout.{encode-view}
-use Rattle.world.specs.SoundLaws.{Sound, size-high, count-high}
 use Rattle.definitions.specs.Steps.{Step, multicasts, arrives, loses, trusts, crashes, refusal, step, after}
-use Rattle.world.specs.StepLaws.{accepted-multicast, accepted-arrival, accepted-loss, accepted-trust, accepted-crash}
 use Rattle.definitions.specs.Answers.{refusal-number}
 use Rattle.definitions.specs.declared.Refusal.{Refusal}
+use Rattle.answers.specs.Laws.{refusal-some}
+use Rattle.world.specs.Layout.{encode-view}
+use Rattle.world.specs.SoundLaws.{Sound, size-high, count-high}
+use Rattle.world.specs.StepLaws.{accepted-multicast, accepted-arrival, accepted-loss, accepted-trust, accepted-crash}
 use Rattle.quiescence.specs.Quiescent.{QuiescentIf, AllQuiescentIf, one-of-all}
 use Rattle.bounds.specs.Bounds.{Bounds, sound-bounds}
-use Rattle.given.specs.declared.Given.{Given}
-use Rattle.given.specs.Given.{step-of}
-use Rattle.answers.specs.Laws.{refusal-some}
 use Rattle.multicasts.specs.Raise.{Low}
 use Rattle.multicasts.specs.Multicast.{sound-low}
+use Rattle.given.specs.declared.Given.{Given}
+use Rattle.given.specs.Given.{step-of}
 
 -- ---- the words
 pub words-taken : (w : List ℕ) (x : Step) → refusal (view w) x ≡ 0

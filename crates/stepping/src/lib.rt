@@ -7,11 +7,11 @@ use given::Given;
 ghost use mathlib.Core.Path.{_≡_};
 ghost use lib.ListN.{length};
 ghost use Rattle.definitions.specs.World.{view, encode};
-ghost use Rattle.world.specs.SoundLaws.{Sound};
 ghost use Rattle.definitions.specs.Steps.{read, refusal, step as stepped, after};
 ghost use Rattle.definitions.specs.Answers.{outcome-number};
-ghost use Rattle.given.specs.Given.{step-of};
+ghost use Rattle.world.specs.SoundLaws.{Sound};
 ghost use Rattle.quiescence.specs.Quiescent.{AllQuiescentIf};
+ghost use Rattle.given.specs.Given.{step-of};
 
 // The refusal of a step, lowest number first, or that it is taken.
 fn judge(w: &[u16], x: Given) -> Outcome

@@ -12,9 +12,9 @@ use Rattle.definitions.specs.World.{State, view}
 use Rattle.definitions.specs.Sound.{sound}
 use Rattle.definitions.specs.Steps.{Step, arrives, read, refusal, accepted, step, after}
 use Rattle.definitions.specs.Settle.{lowest, Settled, settle-from}
-use Rattle.world.specs.SettleLaws.{settle-related}
-use Rattle.definitions.specs.Words.{needs-world, making-refusal, made-words, step-words, step-refusal, stepped-words, settle-words, settled-words, on-words}
 use Rattle.definitions.specs.History.{Run, Item, given, settling, taken, tick, settles, act, run}
+use Rattle.definitions.specs.Words.{needs-world, making-refusal, made-words, step-words, step-refusal, stepped-words, settle-words, settled-words, on-words}
+use Rattle.world.specs.SettleLaws.{settle-related}
 
 -- ---- a refused call changes nothing
 pub refused-same : (n : ℕ) (u w : List ℕ) → (n ≡ 0 → ⊥) → unless-refused n u w ≡ w

@@ -9,15 +9,15 @@ use Prim.Native.Nat.{ℕ, _+_, _-_, _<_}
 use native.Mathlib.Omega.{arith}
 use lib.Dec.{eqb}
 use borrow.Author.Tests.{ltb-true}
-use Rattle.base.specs.Tests.{both, both-l, both-r}
 use Rattle.definitions.specs.General.{In, in-at, tally, absent}
+use Rattle.definitions.specs.World.{size, count, fifo-length, causal-length, held, fifo, causal, sender, State, put, outside-fifo, outside-causal}
+use Rattle.definitions.specs.Machine.{with-tables, in-turn, ready, deliverable, deliverable-at, merge, causal-one, causal-all, appended, raised-next, fifo-one, cascade}
+use Rattle.base.specs.Tests.{both, both-l, both-r}
 use Rattle.base.specs.Count.{tally-falls, absent-out, in-absent, out-absent, absent-room, room-outside}
 use Rattle.base.specs.Loop.{loop-ends}
-use Rattle.definitions.specs.World.{size, count, fifo-length, causal-length, held, fifo, causal, sender, State, put, outside-fifo, outside-causal}
 use Rattle.world.specs.Layout.{put-same, put-other}
 use Rattle.world.specs.SoundLaws.{Sound, fifo-addressed, fifo-once}
 use Rattle.world.specs.Kept.{causal-all-keeps, oks-keep}
-use Rattle.definitions.specs.Machine.{with-tables, in-turn, ready, deliverable, deliverable-at, merge, causal-one, causal-all, appended, raised-next, fifo-one, cascade}
 
 ready-outside : (a b c d : Bool) → both (both (both a b) c) d ≡ true → b ≡ true
 ready-outside a b c d e = both-r a b (both-l (both a b) c (both-l (both (both a b) c) d e))

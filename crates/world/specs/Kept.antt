@@ -8,9 +8,9 @@ use lib.Dec.{eqb}
 use borrow.Author.Tests.{eqb-true, eqb-false}
 use Prim.Native.Nat.{ℕ, zero, suc, _-_}
 use Rattle.definitions.specs.General.{pick, with}
-use Rattle.base.specs.Loop.{loop-keeps}
 use Rattle.definitions.specs.World.{count, fifo-length, causal-length, held, marks, flight, State, put}
 use Rattle.definitions.specs.Machine.{addressees, in-turn, ready, deliverable-at, causal-one, causal-all, due, send-ok, send-oks, fifo-one, cascade, leave, mark, hold, received}
+use Rattle.base.specs.Loop.{loop-keeps}
 
 -- ---- the cascade at p
 module _ {A : Type 0} (f : State → A) (p : ℕ) where

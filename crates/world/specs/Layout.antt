@@ -14,8 +14,8 @@ use borrow.Author.Tests.{ltb-true, ltb-false, lt-ltb, le-ltb}
 use lib.ListN.{length, getD, set, take, drop, length-set, length-take, length-drop}
 use lib.Seq.{getD-set-same, getD-set-other, getD-take, getD-drop}
 use Rattle.definitions.specs.General.{pick, tabulate}
-use Rattle.base.specs.Tabulate.{length-tabulate, getD-tabulate, is-tabulate, splice, length-splice, splice-below, splice-in, splice-above}
 use Rattle.definitions.specs.World.{Cell, size, count, rule, group, trust, counter, sequence, next, delivered, up, fifo-length, causal-length, held, marks, fifo, causal, sender, mask, stamp, number, flight, order, unused, Cell-discrete, addr, Region, cell-in, of-process, of-message, regions, cell-at, State, put, encode, view}
+use Rattle.base.specs.Tabulate.{length-tabulate, getD-tabulate, is-tabulate, splice, length-splice, splice-below, splice-in, splice-above}
 
 -- The cell is one of the world's: 16 processes, 8 groups, 64 messages, 3 kinds of letters, 1,645 unused
 -- words.

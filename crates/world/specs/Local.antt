@@ -4,10 +4,10 @@ use mathlib.Core.Path.{_≡_, refl, sym, _∙_, subst}
 use mathlib.Core.Logic.{_≢_}
 use Prim.Native.Nat.{ℕ, _+_}
 use borrow.Author.Tests.{ne-eqb}
-use Rattle.base.specs.Tests.{pick-no}
 use Rattle.definitions.specs.World.{Cell, size, count, rule, group, trust, counter, sequence, next, delivered, up, fifo-length, causal-length, held, marks, fifo, causal, sender, mask, stamp, number, flight, order, unused, State, put}
-use Rattle.world.specs.Layout.{put-other}
 use Rattle.definitions.specs.Machine.{with-tables, merge, causal-one, causal-all, appended, raised-next, send-oks, fifo-one, cascade, received, arrival, trust-set, crash}
+use Rattle.base.specs.Tests.{pick-no}
+use Rattle.world.specs.Layout.{put-other}
 use Rattle.world.specs.Kept.{causal-all-keeps, oks-keep, cascade-keeps, received-keeps}
 
 -- ---- the own words of process p

@@ -3,11 +3,11 @@ use mathlib.Core.Path.{_≡_, ap}
 use Prim.Native.Nat.{ℕ}
 use lib.Dec.{ltb, eqb}
 use borrow.Author.Tests.{lt-ltb}
-use Rattle.base.specs.Tests.{pick-yes}
 use Rattle.definitions.specs.General.{pick, some}
-use Rattle.base.specs.Search.{some-cong}
 use Rattle.definitions.specs.World.{has-group}
 use Rattle.definitions.specs.Setup.{fresh}
+use Rattle.base.specs.Tests.{pick-yes}
+use Rattle.base.specs.Search.{some-cong}
 
 -- those that its processes are given
 pub fresh-groups : (n : ℕ) (groups : ℕ → ℕ) (g : ℕ)

@@ -9,15 +9,15 @@ use Prim.Native.Nat.{ℕ, _+_, _≤_, _<_}
 use native.Mathlib.Omega.{arith}
 use lib.Dec.{ltb, leb, eqb}
 use borrow.Author.Tests.{ltb-true, ltb-false, lt-ltb, eqb-true, leb-true, eq-eqb, not-true}
-use Rattle.base.specs.Tests.{clash, both, both-l, both-r, both-i}
 use Rattle.definitions.specs.General.{pick, every, some, In, in-at, tally, absent, bit, only}
+use Rattle.definitions.specs.World.{Cell, size, count, rule, group, trust, counter, sequence, next, delivered, up, fifo-length, causal-length, held, marks, fifo, causal, sender, mask, stamp, number, flight, order, unused, addr, State, cell-at, encode, view, is-process, is-message, has-group, addressed, outside-fifo}
+use Rattle.definitions.specs.Sound.{addressee, sends, word, item, logged-of, fit, fine, sound}
+use Rattle.definitions.specs.Machine.{addressees}
+use Rattle.base.specs.Tests.{clash, both, both-l, both-r, both-i}
 use Rattle.base.specs.Search.{every-true, every-intro, every-cong, some-e, some-cong}
 use Rattle.base.specs.Count.{tally-le, tally-cong, absent-in, absent-out, absent-cong}
 use Rattle.base.specs.Bits.{bit-zero, bit-mask-of, bit-mask-of-above, only-e, only-cong}
-use Rattle.definitions.specs.World.{Cell, size, count, rule, group, trust, counter, sequence, next, delivered, up, fifo-length, causal-length, held, marks, fifo, causal, sender, mask, stamp, number, flight, order, unused, addr, State, cell-at, encode, view, is-process, is-message, has-group, addressed, outside-fifo}
 use Rattle.world.specs.Layout.{Within, in-words, cell-at-addr, within-cell-at, get-encode}
-use Rattle.definitions.specs.Machine.{addressees}
-use Rattle.definitions.specs.Sound.{addressee, sends, word, item, logged-of, fit, fine, sound}
 
 -- That a world is sound, as the fact about its cells.
 abbrev pub Sound : State → Type 0

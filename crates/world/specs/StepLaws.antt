@@ -6,13 +6,13 @@ use Prim.Native.Nat.{ℕ, _<_, _^_}
 use native.Mathlib.Omega.{arith}
 use lib.Dec.{ltb}
 use borrow.Author.Tests.{ltb-true, ltb-false, lt-ltb, eqb-true, eq-eqb}
-use Rattle.base.specs.Tests.{both, both-l, both-r, both-i}
-use Rattle.base.specs.Refusals.{needs-none}
 use Rattle.definitions.specs.General.{first-from, bit}
-use Rattle.base.specs.Search.{first-law}
 use Rattle.definitions.specs.World.{size, count, up, flight, State, is-process, is-message}
 use Rattle.definitions.specs.Steps.{multicasts, arrives, loses, trusts, crashes, good-mask, is-up, in-flight, good-trust, refusal, accepted}
 use Rattle.definitions.specs.Settle.{Choice, letter, nothing, moves, receiver, origin, kind, movable, letter-of, lowest}
+use Rattle.base.specs.Tests.{both, both-l, both-r, both-i}
+use Rattle.base.specs.Refusals.{needs-none}
+use Rattle.base.specs.Search.{first-law}
 
 -- ---- an accepted multicast of p
 pub record Multicasts (s : State) (p groups : ℕ) : Type 0 where

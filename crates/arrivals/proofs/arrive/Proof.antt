@@ -5,14 +5,14 @@ use native.Mathlib.Omega.{arith}
 use borrow.Author.Needs.{needs}
 use borrow.Author.Tests.{not-true, not-false}
 use Rattle.definitions.specs.General.{chosen}
-use Rattle.world.specs.Layout.{encode-view, reads-cell}
-use Rattle.definitions.specs.Machine.{leave, mark, received, arrival}
 use Rattle.definitions.specs.World.{count, held, State, encode, view}
-use Rattle.bounds.specs.Bounds.{Bounds, bounds-words}
-use Rattle.receiving.specs.Receiving.{bounds-marked, bounds-hold}
+use Rattle.definitions.specs.Machine.{leave, mark, received, arrival}
+use Rattle.world.specs.Layout.{encode-view, reads-cell}
 use Rattle.quiescence.specs.Quiescent.{Quiescent, received-count, received-only}
 use Rattle.quiescence.specs.Turn.{only-lowest, only-sender}
+use Rattle.bounds.specs.Bounds.{Bounds, bounds-words}
 use Rattle.ready.specs.Ready.{known-words}
+use Rattle.receiving.specs.Receiving.{bounds-marked, bounds-hold}
 use Rattle.arrivals.specs.Arrival.{received-law, received-held, is-quiescent, over-law, mark-only}
 use Rattle.arrivals.proofs.arrive.Statement.{statement}
 use Rattle.arrivals.proofs.arrive.Tie as tie

@@ -2,8 +2,8 @@
 use mathlib.Core.Path.{_≡_}
 use Rattle.definitions.specs.Words.{needs-world}
 use Rattle.definitions.specs.Answers.{refusal-number}
-use Rattle.keeps.specs.Keeps.{SoundWords, taken-sound-words}
 use Rattle.answers.specs.Laws.{refusal-some, taken-zero, refused-number}
+use Rattle.keeps.specs.Keeps.{SoundWords, taken-sound-words}
 use Rattle.reading.specs.Tested.{step-refused, step-taken}
 use borrow.Author.Needs.{needs}
 use Rattle.calls.proofs.step.Statement.{statement}

@@ -6,8 +6,8 @@ use native.Mathlib.Omega.{arith}
 use borrow.Author.Needs.{needs}
 use borrow.Author.Tests.{not-true, not-false}
 use lib.ListN.{length}
-use Rattle.world.specs.Layout.{encode-view}
 use Rattle.definitions.specs.World.{State, encode, view, fifo-length, count}
+use Rattle.world.specs.Layout.{encode-view}
 use Rattle.bounds.specs.Bounds.{Bounds}
 use Rattle.cascade.specs.Cascade.{cascading-start, cascading-stop, cascading-end}
 use Rattle.cascade.specs.Turn.{Going, going-start, going-lowest, going-more, going-stops, going-room}

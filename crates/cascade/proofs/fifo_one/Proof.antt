@@ -3,9 +3,9 @@ use mathlib.Core.Path.{_≡_, sym}
 use Prim.Native.Nat.{_<_}
 use native.Mathlib.Omega.{arith}
 use borrow.Author.Needs.{needs}
-use Rattle.world.specs.Layout.{encode-view, reads-cell}
-use Rattle.definitions.specs.Machine.{appended, causal-all}
 use Rattle.definitions.specs.World.{State, encode, view, next}
+use Rattle.definitions.specs.Machine.{appended, causal-all}
+use Rattle.world.specs.Layout.{encode-view, reads-cell}
 use Rattle.bounds.specs.Bounds.{Bounds, bounds-words}
 use Rattle.cascade.specs.Cascade.{fifo-law, bounds-appended, bounds-delivered, bounds-next, next-room}
 use Rattle.cascade.specs.Turn.{owes-law}

@@ -5,8 +5,8 @@ use mathlib.Core.Path.{_≡_, sym, _∙_}
 use Prim.Native.Nat.{_≤_}
 use native.Mathlib.Omega.{arith}
 use lib.ListN.{length}
-use Rattle.world.specs.Layout.{encode-view, reads-cell}
 use Rattle.definitions.specs.World.{State, encode, view, causal-length}
+use Rattle.world.specs.Layout.{encode-view, reads-cell}
 use Rattle.bounds.specs.Bounds.{bounds-words}
 use Rattle.causal.specs.Causal.{Delivering, delivering-start, delivering-more, delivering-stop, delivering-end}
 use Rattle.causal.proofs.causal_all.Statement.{statement}

@@ -6,10 +6,10 @@ use Prim.Native.Nat.{ℕ, _-_, _≤_}
 use native.Mathlib.Nat.{sub-zero}
 use native.Mathlib.Omega.{arith}
 use Rattle.definitions.specs.General.{first-from}
+use Rattle.definitions.specs.World.{State, encode, fifo-length, causal, view}
+use Rattle.definitions.specs.Machine.{deliverable-at}
 use Rattle.base.specs.Search.{first-skip, first-hit, first-end}
 use Rattle.world.specs.Layout.{reads-cell}
-use Rattle.definitions.specs.Machine.{deliverable-at}
-use Rattle.definitions.specs.World.{State, encode, fifo-length, causal, view}
 use Rattle.sets.specs.Members.{Members}
 use Rattle.causal.specs.Causal.{earliest-is}
 use Rattle.causal.proofs.first_deliverable.Statement.{statement}

@@ -7,9 +7,9 @@ use mathlib.Core.Bool.{true}
 use native.Mathlib.Omega.{arith}
 use borrow.Author.Tests.{not-true, not-false}
 use Rattle.definitions.specs.General.{every}
-use Rattle.base.specs.Search.{every-more, every-fails}
-use Rattle.definitions.specs.Machine.{fits}
 use Rattle.definitions.specs.World.{view, size}
+use Rattle.definitions.specs.Machine.{fits}
+use Rattle.base.specs.Search.{every-more, every-fails}
 use Rattle.deliverable.proofs.fits_all.Statement.{statement}
 use Rattle.deliverable.proofs.fits_all.Tie as tie
 

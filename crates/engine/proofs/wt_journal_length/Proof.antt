@@ -2,8 +2,8 @@
 use mathlib.Core.Path.{_≡_, refl, sym, ap, _∙_}
 use native.Mathlib.Omega.{arith}
 use Rattle.definitions.specs.General.{gives}
-use Rattle.definitions.specs.Answers.{amount-reply}
 use Rattle.definitions.specs.Journal.{needed-reply}
+use Rattle.definitions.specs.Answers.{amount-reply}
 use Rattle.journal.specs.Writing.{sized-small}
 use borrow.Author.Needs.{needs}
 use Rattle.engine.proofs.wt_journal_length.Statement.{statement}

@@ -2,8 +2,8 @@
 use mathlib.Core.Path.{_≡_, refl, sym, ap, _∙_}
 use native.Mathlib.Omega.{arith}
 use Rattle.definitions.specs.General.{gives}
-use Rattle.definitions.specs.Answers.{replaying-reply}
 use Rattle.definitions.specs.Replay.{replay-reply}
+use Rattle.definitions.specs.Answers.{replaying-reply}
 use Rattle.replaying.specs.Turns.{counts-small}
 use borrow.Author.Needs.{needs}
 use Rattle.engine.proofs.wt_replay.Statement.{statement}

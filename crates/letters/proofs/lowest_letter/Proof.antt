@@ -9,9 +9,9 @@ use native.Mathlib.Omega.{arith}
 use lib.Dec.{ltb}
 use borrow.Author.Tests.{lt-ltb, le-ltb}
 use Rattle.definitions.specs.General.{bit, first-from}
-use Rattle.base.specs.Search.{first-skip, first-hit, first-end}
 use Rattle.definitions.specs.World.{State, size, count, view}
 use Rattle.definitions.specs.Settle.{receiver, origin, kind, movable}
+use Rattle.base.specs.Search.{first-skip, first-hit, first-end}
 use Rattle.letters.specs.declared.Letter.the-variants.{Nothing}
 use Rattle.letters.specs.Letters.{choice-of}
 use Rattle.letters.specs.Places.{from-message, from-kind, from-origin}

@@ -9,8 +9,8 @@ use borrow.Author.Tests.{eq-eqb, ne-eqb}
 use lib.Bits.{bitAnd}
 use lib.Dec.{eqb}
 use Rattle.definitions.specs.General.{first-from}
-use Rattle.base.specs.Search.{first-skip, first-hit, first-end}
 use Rattle.definitions.specs.World.{view}
+use Rattle.base.specs.Search.{first-skip, first-hit, first-end}
 use Rattle.letters.specs.Places.{sends-ok}
 use Rattle.letters.proofs.lowest_ok.Statement.{statement}
 use Rattle.letters.proofs.lowest_ok.Tie as tie

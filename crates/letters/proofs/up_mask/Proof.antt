@@ -4,8 +4,8 @@ use Prim.Native.Nat.{ℕ, _-_, _≤_}
 use native.Mathlib.Omega.{arith}
 use Rattle.definitions.specs.General.{pick, with, mask-of}
 use Rattle.definitions.specs.World.{size, view}
-use Rattle.letters.specs.Search.{mask-more}
 use Rattle.definitions.specs.Steps.{is-up}
+use Rattle.letters.specs.Search.{mask-more}
 use Rattle.letters.proofs.up_mask.Statement.{statement}
 use Rattle.letters.proofs.up_mask.Tie as tie
 

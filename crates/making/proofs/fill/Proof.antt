@@ -4,8 +4,8 @@ use Prim.Native.Nat.{ℕ}
 use native.Mathlib.Omega.{arith}
 use lib.ListN.{length}
 use Rattle.definitions.specs.World.{encode}
-use Rattle.world.specs.Layout.{length-encode}
 use Rattle.definitions.specs.Setup.{made}
+use Rattle.world.specs.Layout.{length-encode}
 use Rattle.setup.specs.Groups.{group-in, good-facts}
 use Rattle.making.specs.Begun.{begun, begun-made}
 use Rattle.making.specs.Calls.{start-words}

@@ -2,12 +2,12 @@
 use mathlib.Core.Path.{_≡_, ap, _∙_}
 use Prim.Native.Nat.{ℕ}
 use native.Mathlib.Omega.{arith}
-use Rattle.world.specs.SoundLaws.{size-high}
-use Rattle.definitions.specs.Words.{needs-world}
 use Rattle.definitions.specs.General.{gives}
+use Rattle.definitions.specs.Words.{needs-world}
 use Rattle.definitions.specs.Answers.{refusal-number}
-use Rattle.keeps.specs.Keeps.{SoundWords, taken-sound-words}
 use Rattle.answers.specs.Laws.{refusal-some, taken-zero, refused-number}
+use Rattle.world.specs.SoundLaws.{size-high}
+use Rattle.keeps.specs.Keeps.{SoundWords, taken-sound-words}
 use Rattle.reading.specs.Tested.{log-refused, log-absent, log-there}
 use borrow.Author.Needs.{needs}
 use Rattle.reading.proofs.log_length.Statement.{statement}

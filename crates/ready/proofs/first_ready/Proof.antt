@@ -8,9 +8,9 @@ use native.Mathlib.Omega.{arith}
 use borrow.Author.Needs.{needs}
 use native.Mathlib.Nat.{sub-zero}
 use Rattle.definitions.specs.General.{first-from}
+use Rattle.definitions.specs.World.{State, encode, count}
 use Rattle.base.specs.Search.{first-skip, first-hit, first-end}
 use Rattle.world.specs.Layout.{reads-cell}
-use Rattle.definitions.specs.World.{State, encode, count}
 use Rattle.ready.specs.Ready.{looked, looked-at, passed-over}
 use Rattle.ready.proofs.first_ready.Statement.{statement}
 use Rattle.ready.proofs.first_ready.Tie as tie

@@ -7,8 +7,8 @@ use native.Mathlib.Omega.{arith}
 use borrow.Author.Tests.{not-true, not-false}
 use borrow.Author.Needs.{needs}
 use Rattle.definitions.specs.General.{every, only}
-use Rattle.base.specs.Search.{every-intro, every-more, every-fails}
 use Rattle.definitions.specs.World.{view}
+use Rattle.base.specs.Search.{every-intro, every-more, every-fails}
 use Rattle.refusals.specs.Refused.{named-well}
 use Rattle.refusals.proofs.are_groups.Statement.{statement}
 use Rattle.refusals.proofs.are_groups.Tie as tie

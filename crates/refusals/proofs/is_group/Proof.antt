@@ -7,10 +7,10 @@ use native.Mathlib.Omega.{arith}
 use lib.Dec.{eqb}
 use borrow.Author.Tests.{eq-eqb}
 use borrow.Author.Needs.{needs}
-use Rattle.base.specs.Tests.{is-other}
 use Rattle.definitions.specs.General.{every, some}
-use Rattle.base.specs.Search.{every-intro, every-more, some-i}
 use Rattle.definitions.specs.World.{size, group, view, has-group}
+use Rattle.base.specs.Tests.{is-other}
+use Rattle.base.specs.Search.{every-intro, every-more, some-i}
 use Rattle.refusals.proofs.is_group.Statement.{statement}
 use Rattle.refusals.proofs.is_group.Tie as tie
 

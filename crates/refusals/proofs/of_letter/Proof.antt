@@ -6,8 +6,8 @@ use borrow.Author.Tests.{not-true, not-false}
 use Rattle.definitions.specs.General.{pick}
 use Rattle.definitions.specs.World.{view}
 use Rattle.definitions.specs.Steps.{is-up, arrives, loses, in-flight, refusal}
-use Rattle.refusals.specs.Refused.{fails, passes, operands-low, flight-refusal, letter-front}
 use Rattle.answers.specs.Laws.{front-refused, front-taken}
+use Rattle.refusals.specs.Refused.{fails, passes, operands-low, flight-refusal, letter-front}
 use borrow.Author.Needs.{needs}
 use Rattle.refusals.proofs.of_letter.Statement.{statement}
 use Rattle.refusals.proofs.of_letter.Tie as tie

@@ -8,8 +8,8 @@ use Rattle.definitions.specs.General.{needs as test}
 use Rattle.definitions.specs.World.{count, view}
 use Rattle.definitions.specs.Steps.{multicasts, good-mask, refusal}
 use Rattle.definitions.specs.Answers.{outcome-number}
-use Rattle.refusals.specs.Refused.{fails, passes, process-refusal, multicast-front}
 use Rattle.answers.specs.Laws.{front-refused, front-taken}
+use Rattle.refusals.specs.Refused.{fails, passes, process-refusal, multicast-front}
 use borrow.Author.Needs.{needs}
 use Rattle.refusals.proofs.of_multicast.Statement.{statement}
 use Rattle.refusals.proofs.of_multicast.Tie as tie

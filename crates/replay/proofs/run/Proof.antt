@@ -1,8 +1,8 @@
 -- `replay::run` is safe and ends: a replay that is not refused leaves a sound world. Assumes libc's contract of
 -- write.
 use mathlib.Core.Path.{sym, ap, subst, _∙_}
-use Rattle.keeps.specs.Keeps.{SoundWords}
 use Rattle.definitions.specs.Answers.{replaying-reply}
+use Rattle.keeps.specs.Keeps.{SoundWords}
 use Rattle.replaying.specs.Laws.{replay-sound}
 use Rattle.replaying.specs.Turns.{not-refused}
 use borrow.Author.Needs.{needs}

@@ -1,7 +1,7 @@
 -- `sends::is_due` meets its contract. Assumes nothing.
 use borrow.Author.Needs.{needs}
-use Rattle.definitions.specs.Machine.{in-turn}
 use Rattle.definitions.specs.World.{view}
+use Rattle.definitions.specs.Machine.{in-turn}
 use Rattle.sends.specs.Sends.{due-not-held, due-not-from, due-is}
 use Rattle.sends.proofs.is_due.Statement.{statement}
 use Rattle.sends.proofs.is_due.Tie as tie

@@ -6,9 +6,9 @@ use native.Mathlib.Omega.{arith}
 use borrow.Author.Needs.{needs}
 use lib.ListN.{length}
 use Rattle.definitions.specs.General.{some}
-use Rattle.world.specs.Layout.{encode-view, reads-cell}
-use Rattle.definitions.specs.Machine.{due, send-ok, send-oks}
 use Rattle.definitions.specs.World.{State, encode, view, count}
+use Rattle.definitions.specs.Machine.{due, send-ok, send-oks}
+use Rattle.world.specs.Layout.{encode-view, reads-cell}
 use Rattle.bounds.specs.Bounds.{Bounds, bounds-words}
 use Rattle.sends.specs.Sends.{bounds-oks, oks-start, oks-more, owed-start, owed-more}
 use Rattle.sends.proofs.send_oks.Statement.{statement}

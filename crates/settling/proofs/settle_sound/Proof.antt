@@ -8,12 +8,12 @@ use native.Mathlib.Nat.{sub-zero}
 use native.Mathlib.Omega.{arith}
 use lib.ListN.{length}
 use borrow.Author.Needs.{needs}
+use Rattle.definitions.specs.General.{gives}
 use Rattle.definitions.specs.World.{count, view}
+use Rattle.definitions.specs.Settle.{letter, Settled, lowest}
+use Rattle.definitions.specs.Words.{settle-words}
 use Rattle.world.specs.Layout.{length-encode}
 use Rattle.world.specs.SoundLaws.{size-high, count-high}
-use Rattle.definitions.specs.Settle.{letter, Settled, lowest}
-use Rattle.definitions.specs.General.{gives}
-use Rattle.definitions.specs.Words.{settle-words}
 use Rattle.bounds.specs.Bounds.{sound-bounds}
 use Rattle.letters.specs.Letters.{choice-of}
 use Rattle.settling.specs.Settling.{settling-from, settle-more, settle-done, settle-stopped, rested-known, letter-within, Going, going-first, going-on}

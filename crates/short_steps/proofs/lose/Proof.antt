@@ -1,6 +1,6 @@
 -- `short_steps::lose` meets its contract. Assumes nothing.
-use Rattle.world.specs.Layout.{changes-own}
 use Rattle.definitions.specs.Machine.{leave}
+use Rattle.world.specs.Layout.{changes-own}
 use borrow.Author.Needs.{needs}
 use Rattle.short_steps.proofs.lose.Statement.{statement}
 use Rattle.short_steps.proofs.lose.Tie as tie

@@ -1,8 +1,8 @@
 -- `stepping::act` meets its contract: the kind of the step decides. Assumes nothing.
 use mathlib.Core.Path.{sym}
 use Rattle.definitions.specs.World.{view}
-use Rattle.world.specs.Layout.{encode-view}
 use Rattle.definitions.specs.Steps.{step}
+use Rattle.world.specs.Layout.{encode-view}
 use Rattle.stepping.specs.Stepping.{acted, taken-as, can-multicast, can-arrive, can-lose, can-trust, can-crash}
 use borrow.Author.Needs.{needs}
 use Rattle.stepping.proofs.act.Statement.{statement}
