@@ -17,6 +17,7 @@ mod world;
 use difference::Difference;
 use reference::random::Random;
 use std::process::ExitCode;
+use std::thread;
 use std::time::Instant;
 use tally::Tally;
 
@@ -67,16 +68,26 @@ fn main() -> ExitCode {
             return ExitCode::from(2);
         }
     };
-    let mut inputs = 0;
     let named = |area: &&Area| range.area.as_ref().map_or(true, |name| name == area.name);
-    for area in AREAS.iter().filter(named) {
-        match run(area, &range) {
+    // The areas beside each other: a line names its own.
+    let results: Vec<_> = thread::scope(|scope| {
+        let runs: Vec<_> =
+            AREAS.iter().filter(named).map(|area| (area.name, scope.spawn(|| run(area, &range)))).collect();
+        runs.into_iter().map(|(name, run)| (name, run.join().expect("an area's thread"))).collect()
+    });
+    let mut inputs = 0;
+    let mut failed = false;
+    for (name, result) in results {
+        match result {
             Ok(run) => inputs += run,
             Err(lines) => {
-                lines.iter().for_each(|line| println!("compare: {}: {line}", area.name));
-                return ExitCode::FAILURE;
+                lines.iter().for_each(|line| println!("compare: {name}: {line}"));
+                failed = true;
             }
         }
+    }
+    if failed {
+        return ExitCode::FAILURE;
     }
     println!("compare: {inputs} inputs, no difference");
     ExitCode::SUCCESS
