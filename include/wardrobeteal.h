@@ -1,15 +1,40 @@
 /*
  * Wardrobeteal: the message engine for feed mill control software. FIFO and causal multicast among groups of
- * processes.
+ * processes, after Nicolas Schiper and Fernando Pedone, "Fast, Flexible, and Highly Resilient Genuine Fifo and
+ * Causal Multicast Algorithms", University of Lugano, Technical Report 2009/003, October 2009.
+ *
+ * docs/WORDS.md explains the words (process, group, letter, hold, OK, mark, trust set and the others),
+ * docs/RUNNING.md how to build the engine into your software, docs/REFUSALS.md what each refusal means.
  *
  * For C99 or later and C++. Link with libengine.a, for x86-64 Linux, which calls nothing but memcpy and memset.
  *
- * Every call takes any storage, any step and any journal. It returns 0, or the number of a refusal (below); where
- * several apply, the one that the call's comment names first. A refused call changes nothing that was lent: no
- * word, no byte, no number. No call allocates, blocks, keeps a pointer or has a state of its own, so calls on
- * different worlds may run at the same time. The only duty of the caller is that of C: each pointer is to as many
- * items as the length beside it says, a pointer to a number is to one, and what a call changes overlaps nothing
- * else that is lent to it. A pointer is never null, also where the length is 0.
+ * The calls are the functions of the archive. Every call but wt_version takes any storage, any step and any journal.
+ * It returns 0, or the number of a refusal (below); where several apply, the one that the call's comment names first.
+ * A refused call changes nothing that was lent: no word, no byte, no number. No call allocates, blocks, keeps a
+ * pointer or has a state of its own, so calls on different worlds may run at the same time. A call asks of the caller
+ * only what C asks: each pointer is to as many items as the length beside it says, a pointer to a number is to one,
+ * and what a call changes overlaps nothing else that is lent to it. A pointer is never null, also where the length
+ * is 0. Behind the calls stand functions of the header's own, which write records and read words.
+ *
+ * YOUR ONE DUTY: THE TRUST RULE. A message enters the FIFO log of a process only with an OK from every process that
+ * it trusts in the groups of the message. A process trusts all processes in a fresh world, and from an accepted trust
+ * step on those that the step names, until its next one. The rule, for all that happened from the fresh world on:
+ *
+ *   1. Every trust set that was in force at a process while that process was up, the starting set included, names
+ *      for each group that has members up at the end at least one of those.
+ *   2. At the end each process that is up trusts only processes that are up.
+ *
+ * Kept, with the office 0 and the mixers 1 and 2 in a group of their own: the office sends a recipe and crashes;
+ * mixer 1 trusts 1 and 2 from then on. With the OKs of both it delivers the recipe, and crashes. Mixer 2 trusts
+ * itself alone from then on. Each set of mixer 1 named mixer 2, which is up at the end: mixer 2 has the recipe too.
+ * Broken: mixer 1 trusts itself alone before the OK of mixer 2 has come, delivers the recipe, and crashes as the
+ * office does. No set of mixer 1 may leave out mixer 2, the only one of the group that is up at the end. All letters
+ * to mixer 2 can be lost, and it never gets the recipe that mixer 1 acted on.
+ *
+ * If the rule is kept, a settle with WT_SETTLE_ALL says done and leaves, in the FIFO log of every addressee that is
+ * up, each message that a process that is up multicast, or that any process, up or down, has FIFO-delivered. If it
+ * is broken, the settle still says done, but the FIFO logs need not agree so. The order within the logs holds in
+ * either case.
  */
 #ifndef WARDROBETEAL_H
 #define WARDROBETEAL_H
@@ -18,7 +43,9 @@
 #include <stddef.h>
 #include <stdint.h>
 
+/* The version of this header, as text and as the number that wt_version gives. */
 #define WT_VERSION "9.0.0"
+#define WT_VERSION_NUMBER 9000000
 
 #ifdef __cplusplus
 extern "C" {
@@ -44,6 +71,12 @@ enum { WT_STEP_MULTICAST = 1, WT_STEP_ARRIVAL = 2, WT_STEP_LOSS = 3, WT_STEP_TRU
 
 /* The kinds of letters: the first one, sent by the sender of a message; a relay and an OK, sent by an addressee. */
 enum { WT_LETTER_FIRST = 0, WT_LETTER_RELAY = 1, WT_LETTER_OK = 2 };
+
+/*
+ * The version of the archive: a million times its first number, a thousand times its second, and its third. It is
+ * WT_VERSION_NUMBER; test it once at the start, since an archive of another version may have other calls.
+ */
+uint32_t wt_version(void);
 
 /*
  * The calls on a world. In each of them:
@@ -73,6 +106,12 @@ uint32_t wt_step(uint16_t *world, size_t world_length, const uint8_t *step, size
  *   arrivals   where the number of those made is put
  *   done       where 1 is put if no such letter remains, or 0 if the budget is used and one remains
  * Returns 0, or refusal 1, 2. Changes the words of world, *arrivals and *done.
+ *
+ * It is for trials, and for a program that carries the letters itself: with a network, take the arrivals that have
+ * happened. Its arrivals are no records: a journal of your steps alone does not replay to the world that a settle
+ * leaves. If you keep a journal, take the arrivals as steps instead: with wt_next_letter from 0, find the first letter
+ * with both ends up, take its arrival, and begin again, until there is none. That leaves the very words that this call
+ * leaves.
  */
 uint32_t wt_settle(uint16_t *world, size_t world_length, uint32_t budget, uint32_t *arrivals, uint32_t *done);
 
@@ -89,6 +128,7 @@ uint32_t wt_world_log(const uint16_t *world, size_t world_length, uint32_t proce
 
 /*
  * Replays a journal, over whatever the words hold: makes the world from its first record, takes all others as steps.
+ * The arrivals of a wt_settle are not in a journal, unless they were taken as steps (see there).
  *   journal, journal_length   the bytes of the journal
  *   steps                     where the number of records after the first is put
  *   refused                   where is put how many of these were refused; they changed nothing
@@ -161,7 +201,7 @@ enum {
     WT_REFUSAL_OUTPUT_LENGTH = 17   /* output length not what is needed */
 };
 
-/* The refusal's words: who caused it, and how. "no refusal" for any other number. */
+/* The refusal's words: who causes it, and how, for whoever looks it up. "no refusal" for any other number. */
 static inline const char *wt_refusal_text(uint32_t number) {
     switch (number) {
     case WT_REFUSAL_WORLD_LENGTH: return "whoever lends storage: world not 20,480 words";
@@ -190,34 +230,71 @@ static inline const char *wt_refusal_text(uint32_t number) {
     }
 }
 
-/*
- * Setup records and steps, written into 8 bytes. A step is judged by wt_step.
- */
-
-/* The mask of one group, and of one process; masks are joined by |. */
-#define WT_GROUP(group) ((uint8_t)(1u << (group)))
-#define WT_PROCESS(process) ((uint16_t)(1u << (process)))
-
-static inline void wt_put_record(uint8_t *record, uint8_t kind, uint8_t a, uint8_t b, uint8_t c, uint8_t d) {
-    record[0] = kind;
-    record[1] = a;
-    record[2] = b;
-    record[3] = c;
-    record[4] = d;
-    record[5] = record[6] = record[7] = 0;
+/* What was wrong, in a plain sentence for whoever sees it happen. "nothing was refused" for any other number. */
+static inline const char *wt_refusal_sentence(uint32_t number) {
+    switch (number) {
+    case WT_REFUSAL_WORLD_LENGTH: return "the world that was lent is not 20,480 words long";
+    case WT_REFUSAL_NOT_SOUND: return "the words that were lent are not a world that this engine could have left";
+    case WT_REFUSAL_SETUP:
+        return "the setup record is not one: 8 bytes, 1 to 16 processes, groups numbered from 0 without a gap";
+    case WT_REFUSAL_FORM:
+        return "these bytes are not a step: 8 bytes, a known kind of step and of letter, and zeros behind";
+    case WT_REFUSAL_PROCESS: return "this world has no process of that number";
+    case WT_REFUSAL_GROUP_MASK: return "the message is to no group, or to one that this world does not have";
+    case WT_REFUSAL_MESSAGE: return "no message of that number has been multicast in this world";
+    case WT_REFUSAL_TRUST_MASK: return "the trust set names a process that this world does not have";
+    case WT_REFUSAL_DOWN: return "that process has crashed, and sends, receives and trusts no more";
+    case WT_REFUSAL_FULL: return "the world is full: 64 messages have been multicast in it";
+    case WT_REFUSAL_NOT_IN_FLIGHT: return "that letter is not in flight: it was not sent, has arrived or was lost";
+    case WT_REFUSAL_BOTH_UP: return "a letter between two processes that are up cannot be lost";
+    case WT_REFUSAL_JOURNAL_LENGTH: return "a journal is 1 to 128 blocks of 512 bytes, and this one is not";
+    case WT_REFUSAL_CHECK: return "this block's checksum does not match its bytes";
+    case WT_REFUSAL_BLOCK: return "this block's number, its count of records or a byte that must be zero is wrong";
+    case WT_REFUSAL_RECORDS_LENGTH: return "a journal is written of 1 to 8,064 records of 8 bytes, and these are not";
+    case WT_REFUSAL_OUTPUT_LENGTH: return "what was lent for the output is not just as long as the output";
+    default: return "nothing was refused";
+    }
 }
 
 /*
- * The setup record of processes in these groups, groups[i] that of process i. Refusal 3, and nothing written, where
- * these have no place in a record: more than 16 processes, or a group above 7. What else is wrong wt_world_make
- * refuses.
+ * Setup records and steps, written into 8 bytes. No number is cut: where one has no place in the record, the function
+ * returns the refusal that is meant for it, the lowest that applies, and leaves no step there but 8 zeros, which every
+ * world refuses. What has a place is judged by wt_world_make and wt_step.
+ */
+
+/* The mask of one group, and of one process; masks are joined by |. Above 62 it is a bit that no record has. */
+static inline uint64_t wt_bit(uint64_t number) { return UINT64_C(1) << (number < 63 ? number : 63); }
+#define WT_GROUP(group) wt_bit(group)
+#define WT_PROCESS(process) wt_bit(process)
+
+/* A record of these bytes, or of zeros if there is a refusal. */
+static inline uint32_t wt_put_record(uint8_t *record, uint32_t refusal, uint64_t kind, uint64_t a, uint64_t b,
+                                     uint64_t c, uint64_t d) {
+    const uint64_t bytes[WT_RECORD_BYTES] = {kind, a, b, c, d, 0, 0, 0};
+    int i;
+    for (i = 0; i < WT_RECORD_BYTES; i++) record[i] = refusal == 0 ? (uint8_t)bytes[i] : 0;
+    return refusal;
+}
+
+/* The step of a letter: refusal 4, 5, 7 for a kind, process or message above 255. */
+static inline uint32_t wt_put_letter(uint8_t *step, uint64_t of, uint64_t kind, uint64_t message, uint64_t from,
+                                     uint64_t to) {
+    uint32_t refusal = kind > 0xFF                ? WT_REFUSAL_FORM
+                       : from > 0xFF || to > 0xFF ? WT_REFUSAL_PROCESS
+                       : message > 0xFF           ? WT_REFUSAL_MESSAGE
+                                                  : 0;
+    return wt_put_record(step, refusal, of, kind, message, from, to);
+}
+
+/*
+ * The setup record of processes in these groups, groups[i] that of process i. Refusal 3 for more than 16 processes or a
+ * group above 7.
  */
 static inline uint32_t wt_put_setup(uint8_t *setup, const uint8_t *groups, size_t processes) {
     uint64_t bits = 0;
     size_t i;
-    if (processes > WT_PROCESSES) return WT_REFUSAL_SETUP;
     for (i = 0; i < processes; i++) {
-        if (groups[i] >= WT_GROUPS) return WT_REFUSAL_SETUP;
+        if (i >= WT_PROCESSES || groups[i] >= WT_GROUPS) return wt_put_record(setup, WT_REFUSAL_SETUP, 0, 0, 0, 0, 0);
         bits |= (uint64_t)groups[i] << (3 * i);
     }
     setup[0] = 0;
@@ -226,44 +303,52 @@ static inline uint32_t wt_put_setup(uint8_t *setup, const uint8_t *groups, size_
     return 0;
 }
 
-/* The process multicasts the next message to the groups of the mask. */
-static inline void wt_put_multicast(uint8_t *step, uint8_t process, uint8_t groups) {
-    wt_put_record(step, WT_STEP_MULTICAST, process, groups, 0, 0);
+/* The process multicasts the next message to the groups of the mask. Refusal 5, or 6 for a group above 7. */
+static inline uint32_t wt_put_multicast(uint8_t *step, uint64_t process, uint64_t groups) {
+    uint32_t refusal = process > 0xFF ? WT_REFUSAL_PROCESS : groups > 0xFF ? WT_REFUSAL_GROUP_MASK : 0;
+    return wt_put_record(step, refusal, WT_STEP_MULTICAST, process, groups, 0, 0);
 }
 
-/* The letter arrives. */
-static inline void wt_put_arrival(uint8_t *step, uint8_t kind, uint8_t message, uint8_t from, uint8_t to) {
-    wt_put_record(step, WT_STEP_ARRIVAL, kind, message, from, to);
+/* The letter arrives. Refusal 4, 5, 7. */
+static inline uint32_t wt_put_arrival(uint8_t *step, uint64_t kind, uint64_t message, uint64_t from, uint64_t to) {
+    return wt_put_letter(step, WT_STEP_ARRIVAL, kind, message, from, to);
 }
 
-/* The letter is lost. */
-static inline void wt_put_loss(uint8_t *step, uint8_t kind, uint8_t message, uint8_t from, uint8_t to) {
-    wt_put_record(step, WT_STEP_LOSS, kind, message, from, to);
+/* The letter is lost. Refusal 4, 5, 7. */
+static inline uint32_t wt_put_loss(uint8_t *step, uint64_t kind, uint64_t message, uint64_t from, uint64_t to) {
+    return wt_put_letter(step, WT_STEP_LOSS, kind, message, from, to);
 }
 
-/* From now on the process trusts those of the mask and no others. */
-static inline void wt_put_trust(uint8_t *step, uint8_t process, uint16_t trusted) {
-    wt_put_record(step, WT_STEP_TRUST, process, (uint8_t)(trusted & 0xFF), (uint8_t)(trusted >> 8), 0);
+/* From now on the process trusts those of the mask and no others. Refusal 5, or 8 for a process above 15 in it. */
+static inline uint32_t wt_put_trust(uint8_t *step, uint64_t process, uint64_t trusted) {
+    uint32_t refusal = process > 0xFF ? WT_REFUSAL_PROCESS : trusted > 0xFFFF ? WT_REFUSAL_TRUST_MASK : 0;
+    return wt_put_record(step, refusal, WT_STEP_TRUST, process, trusted & 0xFF, trusted >> 8, 0);
 }
 
-/* The process crashes. */
-static inline void wt_put_crash(uint8_t *step, uint8_t process) {
-    wt_put_record(step, WT_STEP_CRASH, process, 0, 0, 0);
+/* The process crashes. Refusal 5. */
+static inline uint32_t wt_put_crash(uint8_t *step, uint64_t process) {
+    return wt_put_record(step, process > 0xFF ? WT_REFUSAL_PROCESS : 0, WT_STEP_CRASH, process, 0, 0, 0);
 }
 
 /*
- * What stands in a world that a call has made or taken, by docs/LAYOUT.md. A number that is absent there gives
- * false.
+ * What stands in a world of WT_WORLD_WORDS words, by docs/LAYOUT.md. The words are not tested here: they are those
+ * that a call has made or taken. A number that is absent there gives false, and then nothing is changed.
  */
 
 enum {
     WT_PLACE_COUNT = 1,
     WT_PLACE_PROCESSES = 3, /* the blocks of the processes */
     WT_PROCESS_BLOCK = 429,
+    WT_PROCESS_GROUP = 0,
+    WT_PROCESS_TRUST = 1,
     WT_PROCESS_UP = 170,
     WT_PLACE_MESSAGES = 6867, /* the blocks of the messages */
     WT_MESSAGE_BLOCK = 187,
-    WT_MESSAGE_FLIGHT = 138
+    WT_MESSAGE_SENDER = 0,
+    WT_MESSAGE_GROUPS = 1,
+    WT_MESSAGE_FLIGHT = 138,
+    WT_MESSAGE_MASKS = 48,   /* the masks of receivers, for each kind and origin */
+    WT_LETTER_PLACES = 49152 /* 64 messages, 48 masks, 16 receivers */
 };
 
 static inline uint32_t wt_processes(const uint16_t *world) { return world[0]; }
@@ -271,15 +356,82 @@ static inline uint32_t wt_processes(const uint16_t *world) { return world[0]; }
 /* The count of messages so far. */
 static inline uint32_t wt_messages(const uint16_t *world) { return world[WT_PLACE_COUNT]; }
 
-static inline bool wt_is_up(const uint16_t *world, uint32_t process) {
-    return process < WT_PROCESSES && world[WT_PLACE_PROCESSES + process * WT_PROCESS_BLOCK + WT_PROCESS_UP] == 1;
+/* A word of a process, and of a message. */
+static inline bool wt_of_process(const uint16_t *world, uint32_t process, uint32_t offset, uint32_t *value) {
+    if (process >= WT_PROCESSES || process >= wt_processes(world)) return false;
+    *value = world[WT_PLACE_PROCESSES + process * WT_PROCESS_BLOCK + offset];
+    return true;
 }
 
-/* Whether this letter is in flight: these are the letters that a network has to carry. */
+static inline bool wt_of_message(const uint16_t *world, uint32_t message, uint32_t offset, uint32_t *value) {
+    if (message >= WT_MESSAGES || message >= wt_messages(world)) return false;
+    *value = world[WT_PLACE_MESSAGES + message * WT_MESSAGE_BLOCK + offset];
+    return true;
+}
+
+/* Whether there is such a process and it is up. */
+static inline bool wt_is_up(const uint16_t *world, uint32_t process) {
+    uint32_t up = 0;
+    return wt_of_process(world, process, WT_PROCESS_UP, &up) && up == 1;
+}
+
+/* The group of a process. */
+static inline bool wt_group(const uint16_t *world, uint32_t process, uint32_t *group) {
+    return wt_of_process(world, process, WT_PROCESS_GROUP, group);
+}
+
+/* The mask of the processes that a process trusts. */
+static inline bool wt_trust_mask(const uint16_t *world, uint32_t process, uint32_t *trusted) {
+    return wt_of_process(world, process, WT_PROCESS_TRUST, trusted);
+}
+
+/* The sender of a message. */
+static inline bool wt_sender(const uint16_t *world, uint32_t message, uint32_t *sender) {
+    return wt_of_message(world, message, WT_MESSAGE_SENDER, sender);
+}
+
+/* The mask of the groups that a message is to. */
+static inline bool wt_group_mask(const uint16_t *world, uint32_t message, uint32_t *groups) {
+    return wt_of_message(world, message, WT_MESSAGE_GROUPS, groups);
+}
+
+/* Whether this letter is in flight. */
 static inline bool wt_in_flight(const uint16_t *world, uint32_t kind, uint32_t message, uint32_t from, uint32_t to) {
     uint32_t block = WT_PLACE_MESSAGES + message * WT_MESSAGE_BLOCK;
     if (kind > WT_LETTER_OK || message >= WT_MESSAGES || from >= WT_PROCESSES || to >= WT_PROCESSES) return false;
     return (world[block + WT_MESSAGE_FLIGHT + kind * WT_PROCESSES + from] >> to & 1) == 1;
+}
+
+/* A letter carries a message from one process to one addressee. */
+struct wt_letter {
+    uint32_t message, kind, from, to;
+};
+
+/*
+ * The letters in flight, which a network has to carry, one after the other by message, kind, from, to.
+ *   cursor   from where to look: 0 for the first one; it is moved behind the letter that is found
+ *   letter   where that letter is put
+ * False, and nothing changed, if there is none from there on. The world may change between two calls: what flies
+ * then, from the cursor on, is found. A letter is found each time until its arrival or its loss: which ones you have
+ * handed to your network already is yours to remember.
+ */
+static inline bool wt_next_letter(const uint16_t *world, uint32_t *cursor, struct wt_letter *letter) {
+    uint32_t place = *cursor, receivers = 0;
+    /* The place of a letter: 16 for each mask before its own, message by message, and its receiver. */
+    for (; place < WT_LETTER_PLACES; place = (place / WT_PROCESSES + 1) * WT_PROCESSES) {
+        uint32_t mask = place / WT_PROCESSES, message = mask / WT_MESSAGE_MASKS;
+        if (!wt_of_message(world, message, WT_MESSAGE_FLIGHT + mask % WT_MESSAGE_MASKS, &receivers)) return false;
+        for (receivers >>= place % WT_PROCESSES; receivers != 0; receivers >>= 1, place++) {
+            if ((receivers & 1) == 0) continue;
+            letter->message = message;
+            letter->kind = mask % WT_MESSAGE_MASKS / WT_PROCESSES;
+            letter->from = mask % WT_PROCESSES;
+            letter->to = place % WT_PROCESSES;
+            *cursor = place + 1;
+            return true;
+        }
+    }
+    return false;
 }
 
 #ifdef __cplusplus

@@ -1,8 +1,8 @@
 /*
- * A recipe that is overtaken. The office sends the press a new recipe (message 0), then tells the mixer to start
- * (1). The mixer starts and tells the press that a batch is on its way (2). The batch's letters reach the press
- * before the recipe's: the press has message 2, but does not act on it before message 0, which causally precedes
- * it.
+ * A recipe that is overtaken. The office sends the mixers a recipe change (message 0) and the weighbridge a release (1).
+ * The weighbridge acts on the release and calls the batch at the mixers (2). The line from the office to the mixers is
+ * slow, and the call comes before the recipe: the mixer has the call, but does not act on it before the recipe, which
+ * causally precedes it.
  *
  * cc -Idist samples/overtaken.c dist/libengine.a -o overtaken && ./overtaken
  */
@@ -10,10 +10,10 @@
 #include <stdlib.h>
 #include <wardrobeteal.h>
 
-enum { OFFICE, MIXER, PRESS, MACHINES };
+enum { OFFICE, WEIGHBRIDGE, MIXER, MACHINES };
 
-static const char *const names[MACHINES] = {"office", "mixer", "press"};
-static const char *const bodies[] = {"use the new recipe", "start a batch", "a batch is on its way"};
+static const char *const names[MACHINES] = {"office", "weighbridge", "mixer"};
+static const char *const bodies[] = {"the new recipe", "release of order 7", "call for order 7"};
 
 /* The engine's storage, and how many messages of its causal log each machine has acted on. */
 static uint16_t world[WT_WORLD_WORDS];
@@ -21,7 +21,7 @@ static uint32_t acted[MACHINES];
 
 static void check(uint32_t answer) {
     if (answer != 0) {
-        fprintf(stderr, "refusal %u, %s\n", (unsigned)answer, wt_refusal_text(answer));
+        fprintf(stderr, "refusal %u: %s\n", (unsigned)answer, wt_refusal_sentence(answer));
         exit(EXIT_FAILURE);
     }
 }
@@ -47,20 +47,20 @@ static void act(void) {
 
 static uint32_t take(const uint8_t *step) { return wt_step(world, WT_WORLD_WORDS, step, WT_RECORD_BYTES); }
 
-static void multicast(uint8_t from, uint8_t group) {
+static void multicast(uint32_t from, uint32_t group) {
     uint8_t step[WT_RECORD_BYTES];
     uint32_t message = wt_messages(world);
-    wt_put_multicast(step, from, WT_GROUP(group));
+    check(wt_put_multicast(step, from, WT_GROUP(group)));
     check(take(step));
     printf("%s sends message %u to group %u: %s\n", names[from], (unsigned)message, (unsigned)group,
            bodies[message]);
     act();
 }
 
-static void arrive(uint8_t kind, uint8_t message, uint8_t from, uint8_t to) {
+static void arrive(uint32_t kind, uint32_t message, uint32_t from, uint32_t to) {
     static const char *const kinds[] = {"first letter", "relay", "OK"};
     uint8_t step[WT_RECORD_BYTES];
-    wt_put_arrival(step, kind, message, from, to);
+    check(wt_put_arrival(step, kind, message, from, to));
     check(take(step));
     printf("%s of message %u from %s arrives at %s\n", kinds[kind], (unsigned)message, names[from], names[to]);
     act();
@@ -71,6 +71,16 @@ static void print_log(uint32_t machine, bool causal) {
     const uint16_t *log = log_of(machine, causal, &items);
     printf(" %s", causal ? "causal" : "FIFO");
     for (i = 0; i < items; i++) printf(" %u", (unsigned)log[i]);
+}
+
+/* What the network has still to carry. */
+static void print_letters(void) {
+    struct wt_letter letter;
+    uint32_t cursor = 0;
+    while (wt_next_letter(world, &cursor, &letter)) {
+        printf("still travelling: message %u from %s to %s\n", (unsigned)letter.message, names[letter.from],
+               names[letter.to]);
+    }
 }
 
 static void print_logs(void) {
@@ -89,24 +99,30 @@ int main(void) {
     uint8_t record[WT_RECORD_BYTES];
     uint32_t answer;
 
+    if (wt_version() != WT_VERSION_NUMBER) {
+        fprintf(stderr, "libengine.a is of version %u, wardrobeteal.h of version %u\n", (unsigned)wt_version(),
+                (unsigned)WT_VERSION_NUMBER);
+        return EXIT_FAILURE;
+    }
     check(wt_put_setup(record, groups, MACHINES));
     check(wt_world_make(world, WT_WORLD_WORDS, record, sizeof record));
 
     multicast(OFFICE, 2);
     multicast(OFFICE, 1);
-    arrive(WT_LETTER_FIRST, 1, OFFICE, MIXER);
-    arrive(WT_LETTER_OK, 1, MIXER, MIXER);
-    multicast(MIXER, 2);
-    arrive(WT_LETTER_FIRST, 2, MIXER, PRESS);
-    arrive(WT_LETTER_OK, 2, PRESS, PRESS);
+    arrive(WT_LETTER_FIRST, 1, OFFICE, WEIGHBRIDGE);
+    arrive(WT_LETTER_OK, 1, WEIGHBRIDGE, WEIGHBRIDGE);
+    multicast(WEIGHBRIDGE, 2);
+    arrive(WT_LETTER_FIRST, 2, WEIGHBRIDGE, MIXER);
+    arrive(WT_LETTER_OK, 2, MIXER, MIXER);
+    print_letters();
     print_logs();
-    arrive(WT_LETTER_FIRST, 0, OFFICE, PRESS);
-    arrive(WT_LETTER_OK, 0, PRESS, PRESS);
+    arrive(WT_LETTER_FIRST, 0, OFFICE, MIXER);
+    arrive(WT_LETTER_OK, 0, MIXER, MIXER);
     print_logs();
 
     /* A letter arrives once only. */
-    wt_put_arrival(record, WT_LETTER_OK, 0, PRESS, PRESS);
+    check(wt_put_arrival(record, WT_LETTER_OK, 0, MIXER, MIXER));
     answer = take(record);
-    printf("the same letter again: refusal %u, %s\n", (unsigned)answer, wt_refusal_text(answer));
+    printf("the same letter again: refusal %u: %s\n", (unsigned)answer, wt_refusal_sentence(answer));
     return 0;
 }

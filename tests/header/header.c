@@ -3,6 +3,7 @@
  * functions, and what its functions read from a world. The wrapper's tests hold the wrapper to the same lines.
  */
 #include <stdio.h>
+#include <string.h>
 #include <wardrobeteal.h>
 
 static uint16_t world[WT_WORLD_WORDS];
@@ -12,6 +13,16 @@ static void print_record(const char *what, const uint8_t *record) {
     printf("%s:", what);
     for (i = 0; i < WT_RECORD_BYTES; i++) printf(" %02x", (unsigned)record[i]);
     printf("\n");
+}
+
+/* The version has three forms: the header's text and number, and the archive's number. */
+static void print_version(void) {
+    char text[32];
+    uint32_t number = wt_version();
+    sprintf(text, "%u.%u.%u", (unsigned)(number / 1000000), (unsigned)(number / 1000 % 1000),
+            (unsigned)(number % 1000));
+    printf("version: %s\n",
+           number == WT_VERSION_NUMBER && strcmp(text, WT_VERSION) == 0 ? "that of the archive" : "wrong");
 }
 
 static void print_sizes(void) {
@@ -29,7 +40,8 @@ static void print_sizes(void) {
 static void print_refusals(void) {
     uint32_t number;
     for (number = 1; number <= WT_REFUSAL_OUTPUT_LENGTH; number++) {
-        printf("refusal %u, %s\n", (unsigned)number, wt_refusal_text(number));
+        printf("refusal %u: %s\n", (unsigned)number, wt_refusal_sentence(number));
+        printf("caused by %s\n", wt_refusal_text(number));
     }
 }
 
@@ -60,41 +72,57 @@ static void print_records(void) {
 }
 
 static void print_letters(void) {
-    uint32_t m, k, q, p;
-    for (m = 0; m <= WT_MESSAGES; m++)
-        for (k = 0; k <= 3; k++)
-            for (q = 0; q <= WT_PROCESSES; q++)
-                for (p = 0; p <= WT_PROCESSES; p++)
-                    if (wt_in_flight(world, k, m, q, p))
-                        printf("in flight: message %u, kind %u, from %u, to %u\n", (unsigned)m, (unsigned)k,
-                               (unsigned)q, (unsigned)p);
+    struct wt_letter l;
+    uint32_t cursor = 0;
+    while (wt_next_letter(world, &cursor, &l)) {
+        printf("in flight: message %u, kind %u, from %u, to %u\n", (unsigned)l.message, (unsigned)l.kind,
+               (unsigned)l.from, (unsigned)l.to);
+    }
+}
+
+static void print_processes(void) {
+    uint32_t p, group, trusted;
+    for (p = 0; p <= WT_PROCESSES; p++) {
+        if (!wt_group(world, p, &group) || !wt_trust_mask(world, p, &trusted)) continue;
+        printf("process %u: group %u, trusts %04x, %s\n", (unsigned)p, (unsigned)group, (unsigned)trusted,
+               wt_is_up(world, p) ? "up" : "down");
+    }
+}
+
+static void print_messages(void) {
+    uint32_t m, sender, groups;
+    for (m = 0; m <= WT_MESSAGES; m++) {
+        if (!wt_sender(world, m, &sender) || !wt_group_mask(world, m, &groups)) continue;
+        printf("message %u: sender %u, groups %02x\n", (unsigned)m, (unsigned)sender, (unsigned)groups);
+    }
 }
 
 static uint32_t take(const uint8_t *step) { return wt_step(world, WT_WORLD_WORDS, step, WT_RECORD_BYTES); }
 
-/* Two multicasts, an arrival and a crash; then what the header's functions read. */
+/* Takes the step that was written, and adds to the answers. */
+static void then(uint32_t *answers, uint32_t put, const uint8_t *record) { *answers += put + take(record); }
+
+/* Three multicasts, an arrival, a trust step and a crash; then what the header's functions read. */
 static void print_world(void) {
     const uint8_t groups[] = {0, 1, 1};
     uint8_t record[WT_RECORD_BYTES];
-    uint32_t answers = 0;
-    uint32_t p;
-    wt_put_setup(record, groups, 3);
+    uint32_t answers = wt_put_setup(record, groups, 3);
     answers += wt_world_make(world, WT_WORLD_WORDS, record, sizeof record);
-    wt_put_multicast(record, 0, WT_GROUP(1));
-    answers += take(record) + take(record);
-    wt_put_arrival(record, WT_LETTER_FIRST, 1, 0, 1);
-    answers += take(record);
-    wt_put_crash(record, 2);
-    answers += take(record);
+    then(&answers, wt_put_multicast(record, 0, WT_GROUP(1)), record);
+    then(&answers, wt_put_multicast(record, 1, WT_GROUP(0) | WT_GROUP(1)), record);
+    then(&answers, wt_put_multicast(record, 0, WT_GROUP(1)), record);
+    then(&answers, wt_put_arrival(record, WT_LETTER_FIRST, 2, 0, 1), record);
+    then(&answers, wt_put_trust(record, 1, WT_PROCESS(0) | WT_PROCESS(1)), record);
+    then(&answers, wt_put_crash(record, 2), record);
     printf("refused: %u\n", (unsigned)answers);
     printf("world: %u processes, %u messages\n", (unsigned)wt_processes(world), (unsigned)wt_messages(world));
-    for (p = 0; p <= WT_PROCESSES; p++) {
-        if (wt_is_up(world, p)) printf("up: %u\n", (unsigned)p);
-    }
+    print_processes();
+    print_messages();
     print_letters();
 }
 
 int main(void) {
+    print_version();
     print_sizes();
     print_refusals();
     print_records();

@@ -1,8 +1,8 @@
-// The numbers that document 01 gives to the answers.
+// The numbers that document 01 gives to the answers, and that of the version.
 use definitions::Outcome;
 use definitions::Refusal;
 ghost use mathlib.Core.Path.{_≡_};
-ghost use Rattle.definitions.specs.Answers.{refusal-number, outcome-number};
+ghost use Rattle.definitions.specs.Answers.{refusal-number, outcome-number, version};
 
 // The number of a refusal.
 pub fn number(r: Refusal) -> u32
@@ -37,4 +37,11 @@ pub fn outcome(x: Outcome) -> u32
         Outcome::Taken => 0,
         Outcome::Refused(r) => number(r),
     }
+}
+
+// The version of the engine, as one number.
+pub fn of_version() -> u32
+    ensures { λ n. ⌜ n ≡ version ⌝ }
+{
+    9000000
 }

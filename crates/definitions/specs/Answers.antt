@@ -66,3 +66,7 @@ arrivals-in (stopped n) = n
 abbrev pub done-in : Ending → ℕ
 done-in (done n) = 1
 done-in (stopped n) = 0
+
+-- The version of the engine, 9.0.0: a million times its first number, a thousand times its second, and its third.
+abbrev pub version : ℕ
+version = 9000000

@@ -1,5 +1,5 @@
-// The functions that the archive exports. Each returns 0, or the number of the refusal of document 01; what else
-// it answers goes out through a lent number. A refusal leaves everything that was lent as it was.
+// The functions that the archive exports. Each but the version returns 0, or the number of the refusal of document 01;
+// what else it answers goes out through a lent number. A refusal leaves everything that was lent as it was.
 use definitions::Amount;
 use definitions::Replaying;
 use definitions::Settling;
@@ -9,7 +9,15 @@ ghost use Rattle.definitions.specs.General.{refusal-in, value-in};
 ghost use Rattle.definitions.specs.Words.{making-refusal, made-words, step-refusal, stepped-words, settle-reply, settled-words, log-start, length-reply};
 ghost use Rattle.definitions.specs.Journal.{needed-reply, write-refusal, written, count-reply, read-refusal, read-out};
 ghost use Rattle.definitions.specs.Replay.{Counts, replay-reply, replayed-words};
-ghost use Rattle.definitions.specs.Answers.{arrivals-in, done-in};
+ghost use Rattle.definitions.specs.Answers.{arrivals-in, done-in, version};
+
+// The version of the archive, as one number.
+#[no_mangle]
+pub extern "C" fn wt_version() -> u32
+    ensures answer { λ r. ⌜ r ≡ version ⌝ }
+{
+    answers::of_version()
+}
 
 // The number of bytes of the journal of so many bytes of records: 0 or 16.
 #[no_mangle]

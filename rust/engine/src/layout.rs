@@ -7,6 +7,7 @@ const COUNT: usize = 1;
 const PROCESS_BLOCKS: usize = 3;
 const PROCESS_BLOCK: usize = 429;
 const GROUP: usize = 0;
+const TRUST: usize = 1;
 const UP: usize = 170;
 const MESSAGE_BLOCKS: usize = PROCESS_BLOCKS + PROCESSES * PROCESS_BLOCK;
 const MESSAGE_BLOCK: usize = 187;
@@ -28,6 +29,10 @@ pub fn is_up(words: &[u16], process: u8) -> bool {
 
 pub fn group(words: &[u16], process: u8) -> Option<u8> {
     (usize::from(process) < processes(words)).then(|| words[of_process(process) + GROUP] as u8)
+}
+
+pub fn trust_mask(words: &[u16], process: u8) -> Option<u16> {
+    (usize::from(process) < processes(words)).then(|| words[of_process(process) + TRUST])
 }
 
 pub fn sender(words: &[u16], message: u8) -> Option<u8> {

@@ -2,7 +2,11 @@
 //!
 //! [`World`] owns a world, and [`Step`] and [`Setup`] write its records; the modules [`world`] and [`journal`] have the
 //! calls on what a caller lends. Every call takes any input and gives an answer or a [`Refusal`], which changes nothing.
-//! The archive's functions as they are stand in [`raw`], the only file with unsafe code.
+//! The archive's functions as they are stand in [`raw`], the only file with unsafe code. A call panics if the archive is
+//! not of the wrapper's [`VERSION`].
+//!
+//! What is left to you is the trust rule: wardrobeteal.h has it at its top, with what holds if it is kept. docs/WORDS.md
+//! explains the words, docs/RUNNING.md how to build the engine into your software.
 //!
 //! ```
 //! use engine::{Step, World, SETTLE_ALL};
@@ -22,8 +26,10 @@ mod layout;
 pub mod raw;
 mod record;
 mod refusal;
+mod version;
 pub mod world;
 
 pub use record::{Letter, LetterKind, Record, Setup, Step, GROUPS, MESSAGES, PROCESSES};
 pub use refusal::Refusal;
+pub use version::VERSION;
 pub use world::{Replayed, Settled, World, SETTLE_ALL, WORDS};

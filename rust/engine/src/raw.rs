@@ -3,7 +3,10 @@
 
 #![allow(unsafe_code)]
 
+use crate::version;
+
 extern "C" {
+    fn wt_version() -> u32;
     fn wt_journal_write(records: *const u8, records_length: usize, out: *mut u8, out_length: usize) -> u32;
     fn wt_journal_length(records_length: usize, length: *mut u32) -> u32;
     fn wt_journal_count(journal: *const u8, journal_length: usize, count: *mut u32) -> u32;
@@ -41,40 +44,53 @@ extern "C" {
 }
 
 // Safe to call: each pointer comes from a live reference with its own length, and the archive's contracts hold
-// for all inputs.
+// for all inputs. That the archive has these functions is what its version says, which each call tests first.
+
+pub fn version() -> u32 {
+    unsafe { wt_version() }
+}
 
 pub fn journal_write(records: &[u8], out: &mut [u8]) -> u32 {
+    version::test(version());
     unsafe { wt_journal_write(records.as_ptr(), records.len(), out.as_mut_ptr(), out.len()) }
 }
 
 pub fn journal_length(records_length: usize, length: &mut u32) -> u32 {
+    version::test(version());
     unsafe { wt_journal_length(records_length, length) }
 }
 
 pub fn journal_count(journal: &[u8], count: &mut u32) -> u32 {
+    version::test(version());
     unsafe { wt_journal_count(journal.as_ptr(), journal.len(), count) }
 }
 
 pub fn journal_read(journal: &[u8], records: &mut [u8]) -> u32 {
+    version::test(version());
     unsafe { wt_journal_read(journal.as_ptr(), journal.len(), records.as_mut_ptr(), records.len()) }
 }
 
 pub fn world_make(world: &mut [u16], setup: &[u8]) -> u32 {
+    version::test(version());
     unsafe { wt_world_make(world.as_mut_ptr(), world.len(), setup.as_ptr(), setup.len()) }
 }
 
 pub fn world_log(world: &[u16], process: u32, causal: bool, start: &mut u32, length: &mut u32) -> u32 {
+    version::test(version());
     unsafe { wt_world_log(world.as_ptr(), world.len(), process, causal, start, length) }
 }
 
 pub fn step(world: &mut [u16], step: &[u8]) -> u32 {
+    version::test(version());
     unsafe { wt_step(world.as_mut_ptr(), world.len(), step.as_ptr(), step.len()) }
 }
 
 pub fn settle(world: &mut [u16], budget: u32, arrivals: &mut u32, done: &mut u32) -> u32 {
+    version::test(version());
     unsafe { wt_settle(world.as_mut_ptr(), world.len(), budget, arrivals, done) }
 }
 
 pub fn replay(world: &mut [u16], journal: &[u8], steps: &mut u32, refused: &mut u32) -> u32 {
+    version::test(version());
     unsafe { wt_replay(world.as_mut_ptr(), world.len(), journal.as_ptr(), journal.len(), steps, refused) }
 }

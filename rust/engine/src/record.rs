@@ -71,7 +71,7 @@ impl Setup {
 pub enum LetterKind {
     /// Sent by the sender of the message.
     First = 0,
-    /// Sent by an addressee that cannot deliver the message yet.
+    /// Sent by an addressee for which the message is not the next of its sender.
     Relay = 1,
     /// Sent by an addressee for which the message is the next of its sender.
     Ok = 2,

@@ -11,7 +11,8 @@ use std::fmt;
 /// let mut world = World::new(&[0, 1])?;
 /// let refusal = world.step(Step::crash(2)).unwrap_err();
 /// assert_eq!(refusal, Refusal::Process);
-/// assert_eq!(refusal.to_string(), "refusal 5, whoever writes a step: process not below n");
+/// assert_eq!(refusal.to_string(), "refusal 5: this world has no process of that number");
+/// assert_eq!(refusal.text(), "whoever writes a step: process not below n");
 /// # Ok::<(), Refusal>(())
 /// ```
 #[derive(Clone, Copy, Debug, PartialEq, Eq, Hash)]
@@ -70,7 +71,7 @@ impl Refusal {
         self as u32
     }
 
-    /// Who causes it, and how, in the words of document 01.
+    /// Who causes it, and how, for whoever looks it up: the words of document 01.
     pub fn text(self) -> &'static str {
         match self {
             Refusal::WorldLength => "whoever lends storage: world not 20,480 words",
@@ -100,11 +101,40 @@ impl Refusal {
             Refusal::OutputLength => "whoever writes one: output length not what is needed",
         }
     }
+
+    /// What was wrong, in a plain sentence for whoever sees it happen.
+    pub fn sentence(self) -> &'static str {
+        match self {
+            Refusal::WorldLength => "the world that was lent is not 20,480 words long",
+            Refusal::NotSound => "the words that were lent are not a world that this engine could have left",
+            Refusal::Setup => {
+                "the setup record is not one: 8 bytes, 1 to 16 processes, groups numbered from 0 without a gap"
+            }
+            Refusal::Form => {
+                "these bytes are not a step: 8 bytes, a known kind of step and of letter, and zeros behind"
+            }
+            Refusal::Process => "this world has no process of that number",
+            Refusal::GroupMask => "the message is to no group, or to one that this world does not have",
+            Refusal::Message => "no message of that number has been multicast in this world",
+            Refusal::TrustMask => "the trust set names a process that this world does not have",
+            Refusal::Down => "that process has crashed, and sends, receives and trusts no more",
+            Refusal::Full => "the world is full: 64 messages have been multicast in it",
+            Refusal::NotInFlight => "that letter is not in flight: it was not sent, has arrived or was lost",
+            Refusal::BothUp => "a letter between two processes that are up cannot be lost",
+            Refusal::JournalLength => "a journal is 1 to 128 blocks of 512 bytes, and this one is not",
+            Refusal::Check => "this block's checksum does not match its bytes",
+            Refusal::Block => "this block's number, its count of records or a byte that must be zero is wrong",
+            Refusal::RecordsLength => {
+                "a journal is written of 1 to 8,064 records of 8 bytes, and these are not"
+            }
+            Refusal::OutputLength => "what was lent for the output is not just as long as the output",
+        }
+    }
 }
 
 impl fmt::Display for Refusal {
     fn fmt(&self, f: &mut fmt::Formatter<'_>) -> fmt::Result {
-        write!(f, "refusal {}, {}", self.number(), self.text())
+        write!(f, "refusal {}: {}", self.number(), self.sentence())
     }
 }
 

@@ -81,7 +81,9 @@ impl World {
         step(&mut self.words, bytes)
     }
 
-    /// Makes at most so many arrivals, each of the lowest letter between two up processes.
+    /// Makes at most so many arrivals, each of the lowest letter between two up processes. They are no records of a
+    /// journal: if you keep one, take as a step, again and again, the arrival of the first of [`World::letters`] with
+    /// both ends up. That leaves the same words.
     pub fn settle(&mut self, budget: u32) -> Settled {
         settle(&mut self.words, budget).expect("the words of a World are sound")
     }
@@ -114,6 +116,11 @@ impl World {
     /// The group of a process, if there is such a one.
     pub fn group(&self, process: u8) -> Option<u8> {
         layout::group(&self.words, process)
+    }
+
+    /// The mask of the processes that a process trusts, if there is such a one.
+    pub fn trust_mask(&self, process: u8) -> Option<u16> {
+        layout::trust_mask(&self.words, process)
     }
 
     /// The sender of a message, if there is such a one.

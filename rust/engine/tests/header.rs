@@ -1,5 +1,6 @@
 //! The wrapper states what the C header states: the header's test program prints the stored lines, and so does the
-//! wrapper here. The refusals' words are those of document 01 as docs/TRACE.md has its sentences.
+//! wrapper here. The refusals' words are those of the table in docs/REFUSALS.md, and of document 01 as docs/TRACE.md has
+//! its sentences.
 
 use engine::{journal, LetterKind, Record, Refusal, Setup, Step, World};
 use engine::{GROUPS, MESSAGES, PROCESSES, SETTLE_ALL, WORDS};
@@ -9,6 +10,12 @@ use std::path::Path;
 fn read(path: &str) -> String {
     let root = Path::new(env!("CARGO_MANIFEST_DIR")).join("../..");
     fs::read_to_string(root.join(path)).expect(path)
+}
+
+fn version() -> String {
+    let archive = engine::raw::version();
+    let text = format!("{}.{}.{}", archive / 1_000_000, archive / 1_000 % 1_000, archive % 1_000);
+    format!("version: {}", if text == engine::VERSION { "that of the archive" } else { "wrong" })
 }
 
 fn sizes() -> Vec<String> {
@@ -45,15 +52,30 @@ fn records() -> Result<Vec<String>, Refusal> {
     ])
 }
 
+fn refusals() -> Vec<String> {
+    let lines = |refusal: &Refusal| [refusal.to_string(), format!("caused by {}", refusal.text())];
+    Refusal::ALL.iter().flat_map(lines).collect()
+}
+
 fn world() -> Result<Vec<String>, Refusal> {
     let mut world = World::new(&[0, 1, 1])?;
     world.step(Step::multicast(0, &[1])?)?;
+    world.step(Step::multicast(1, &[0, 1])?)?;
     world.step(Step::multicast(0, &[1])?)?;
-    world.step(Step::arrival(LetterKind::First, 1, 0, 1))?;
+    world.step(Step::arrival(LetterKind::First, 2, 0, 1))?;
+    world.step(Step::trust(1, &[0, 1])?)?;
     world.step(Step::crash(2))?;
     let mut lines = vec!["refused: 0".to_string()];
     lines.push(format!("world: {} processes, {} messages", world.processes(), world.messages()));
-    lines.extend((0..=16).filter(|&p| world.is_up(p)).map(|p| format!("up: {p}")));
+    lines.extend((0..=16).filter_map(|p| {
+        let (group, trusted) = (world.group(p)?, world.trust_mask(p)?);
+        let up = if world.is_up(p) { "up" } else { "down" };
+        Some(format!("process {p}: group {group}, trusts {trusted:04x}, {up}"))
+    }));
+    lines.extend((0..=64).filter_map(|m| {
+        let (sender, groups) = (world.sender(m)?, world.group_mask(m)?);
+        Some(format!("message {m}: sender {sender}, groups {groups:02x}"))
+    }));
     lines.extend(world.letters().iter().map(|l| {
         let kind = l.kind.number();
         format!("in flight: message {}, kind {kind}, from {}, to {}", l.message, l.from, l.to)
@@ -63,8 +85,9 @@ fn world() -> Result<Vec<String>, Refusal> {
 
 #[test]
 fn the_wrapper_states_what_the_header_states() {
-    let mut lines = sizes();
-    lines.extend(Refusal::ALL.iter().map(|refusal| refusal.to_string()));
+    let mut lines = vec![version()];
+    lines.extend(sizes());
+    lines.extend(refusals());
     lines.extend(records().unwrap());
     lines.extend(world().unwrap());
     assert_eq!(lines.join("\n") + "\n", read("tests/header/header.out"));
@@ -92,6 +115,26 @@ fn the_constants_of_the_header_have_the_same_names_and_words() {
 fn refusals_are_numbered_from_1() {
     for (i, refusal) in Refusal::ALL.iter().enumerate() {
         assert_eq!(refusal.number() as usize, i + 1);
+    }
+}
+
+/// The rows of docs/REFUSALS.md: `| number | name | sentence | who: how | what to do |`.
+#[test]
+fn refusals_have_the_words_of_the_table() {
+    let table = read("docs/REFUSALS.md");
+    let rows: Vec<Vec<&str>> = table
+        .lines()
+        .filter(|line| line.starts_with(|c: char| c == '|') && line.contains("`WT_REFUSAL_"))
+        .map(|line| line.trim_matches('|').split('|').map(str::trim).collect())
+        .collect();
+    assert_eq!(rows.len(), Refusal::ALL.len());
+    for (row, refusal) in rows.iter().zip(Refusal::ALL) {
+        let name = row[1].trim_matches('`').trim_start_matches("WT_REFUSAL_").replace('_', "").to_lowercase();
+        assert_eq!(row[0], refusal.number().to_string());
+        assert_eq!(name, format!("{refusal:?}").to_lowercase());
+        assert_eq!(row[2], refusal.sentence());
+        assert_eq!(row[3], refusal.text());
+        assert!(!row[4].is_empty(), "{row:?}");
     }
 }
 

@@ -8,8 +8,7 @@ use reference::record::{crash, trust};
 use reference::sample::{self, Weights, CALM, FLOOD, RACE, STORM, WRONG};
 use reference::world::World;
 use support::history::{History, Precedence};
-
-const BUDGET: u32 = 33_792;
+use support::{agreed, BUDGET};
 
 /// Conclusions 1 and 2.
 fn check_order(world: &World, precedence: &Precedence) {
@@ -32,20 +31,9 @@ fn check_order(world: &World, precedence: &Precedence) {
     }
 }
 
-/// Conclusion 3: a settle says done, and then each message that a live process multicast or that any process
-/// FIFO-delivered is in the FIFO log of every live addressee.
+/// Conclusion 3: a settle says done, and then the FIFO logs agree.
 fn agreement(world: &mut World) -> bool {
-    if !world.settle(BUDGET).done {
-        return false;
-    }
-    let in_fifo = |p: usize, m: usize| world.processes[p].fifo_log.contains(&m);
-    let processes = 0..world.processes.len();
-    (0..world.messages.len()).all(|m| {
-        let multicast_by_live = world.processes[world.messages[m].sender].up;
-        let owed = multicast_by_live || processes.clone().any(|p| in_fifo(p, m));
-        let lacks = |q: usize| world.processes[q].up && world.is_addressee(m, q) && !in_fifo(q, m);
-        !owed || !processes.clone().any(lacks)
-    })
+    world.settle(BUDGET).done && agreed(world)
 }
 
 /// The letters that the messages so far can cause.

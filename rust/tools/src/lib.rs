@@ -2,6 +2,7 @@
 
 #![forbid(unsafe_code)]
 
+pub mod names;
 mod numbers;
 pub mod picture;
 pub mod run;

@@ -6,16 +6,17 @@ mod letters;
 mod marks;
 mod places;
 
+use crate::names::Names;
 use crate::run::Run;
 use canvas::{Canvas, COLOURS};
 use places::Places;
 
-/// The picture of a run.
-pub fn svg(run: &Run) -> String {
-    let places = Places::of(run);
+/// The picture of a run, its lines labelled with the names.
+pub fn svg(run: &Run, names: &Names) -> String {
+    let places = Places::of(run, names);
     let mut canvas = Canvas::new();
     marks::time(&mut canvas, run, &places);
-    marks::lines(&mut canvas, run, &places);
+    marks::lines(&mut canvas, run, names, &places);
     marks::waits(&mut canvas, &places);
     letters::draw(&mut canvas, run, &places);
     marks::moments(&mut canvas, run, &places);

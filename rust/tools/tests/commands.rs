@@ -48,28 +48,62 @@ fn what_is_refused_is_told() {
     let output = run(JOURNAL_TEXT, &["to-journal"], b"setup groups 0\nmulticast 0 to 9\n");
     refused(output, 1, "journal-text: line 2: a group is a number from 0 to 7, not '9'\n");
     let wrong = stored("tests/journals/wrong-form.journal");
-    let reason = "refusal 15, whoever carries a journal: any other block rule\n";
+    let reason =
+        "refusal 15: this block's number, its count of records or a byte that must be zero is wrong\n";
     refused(run(JOURNAL_TEXT, &["to-text"], &wrong), 1, &format!("journal-text: {reason}"));
     refused(run(SPACE_TIME, &[], &wrong), 1, &format!("space-time: {reason}"));
 }
 
 #[test]
 fn wrong_arguments_show_the_usage() {
-    for (program, arguments) in [(JOURNAL_TEXT, &[][..]), (JOURNAL_TEXT, &["to"]), (SPACE_TIME, &["x"])] {
+    let wrong: [(&str, &[&str]); 4] = [
+        (JOURNAL_TEXT, &[]),
+        (JOURNAL_TEXT, &["to"]),
+        (SPACE_TIME, &["--names"]),
+        (SPACE_TIME, &["office", "-"]),
+    ];
+    for (program, arguments) in wrong {
         let output = run(program, arguments, b"");
         assert_eq!(output.status.code(), Some(2));
         assert!(String::from_utf8_lossy(&output.stderr).starts_with("usage: "));
     }
 }
 
-/// The pictures of the README, made by:
-/// `space-time <tests/journals/known-3.journal >docs/pictures/known-3.svg`.
+#[test]
+fn wrong_names_are_told() {
+    let journal = stored("tests/journals/known-3.journal");
+    let longest = "123456789 123456789 1234";
+    assert!(run(SPACE_TIME, &[longest, "b", "c"], &journal).status.success());
+    let longer = longest.to_string() + "5";
+    let wrong: [(&[&str], &str); 6] = [
+        (&["office", "mixer"], "2 names for 3 processes"),
+        (&["office"], "1 name for 3 processes"),
+        (&["a", "b", "c", "d"], "4 names for 3 processes"),
+        (&["office", "", "mixer"], "an empty name"),
+        (&["office", &longer, "mixer"], "a name of 25 characters; at most 24"),
+        (&["office", "a\nb", "mixer"], "a name with a control character"),
+    ];
+    for (names, reason) in wrong {
+        refused(run(SPACE_TIME, names, &journal), 1, &format!("space-time: {reason}\n"));
+    }
+    let one_process = stored("tests/journals/known-1.journal");
+    refused(run(SPACE_TIME, &["a", "b"], &one_process), 1, "space-time: 2 names for 1 process\n");
+}
+
+/// The pictures of the documents, made by:
+/// `space-time office weighbridge mixer <tests/journals/known-3.journal >docs/pictures/known-3.svg`.
+const PICTURES: [(&str, &[&str]); 3] = [
+    ("known-3", &["office", "weighbridge", "mixer"]),
+    ("known-4", &["office", "weighbridge", "mixer"]),
+    ("words", &["office", "weighbridge", "small mixer", "large mixer"]),
+];
+
 #[test]
 fn stored_pictures_are_those_of_their_journals() {
-    for name in ["known-3", "known-4"] {
+    for (name, names) in PICTURES {
         let journal = stored(&format!("tests/journals/{name}.journal"));
         let picture = stored(&format!("docs/pictures/{name}.svg"));
-        let drawn = run(SPACE_TIME, &[], &journal).stdout;
+        let drawn = run(SPACE_TIME, names, &journal).stdout;
         assert!(drawn == picture, "docs/pictures/{name}.svg is not what space-time draws");
     }
 }

@@ -7,6 +7,7 @@ use reference::random::Random;
 use reference::replay::replay;
 use std::fs;
 use support::{root, run_records, stored_journals};
+use tools::names::Names;
 use tools::picture::svg;
 use tools::run::{End, Run, What};
 
@@ -65,7 +66,7 @@ fn a_run_is_what_the_second_implementation_says() {
 fn a_picture_shows_every_letter_delivery_and_wait() {
     for index in 0..RUNS / 4 {
         let run = Run::of_journal(&any_journal(index)).unwrap();
-        let picture = svg(&run);
+        let picture = svg(&run, &Names::none());
         let shown = |mark: &str| picture.matches(mark).count();
         // The legend has three arrows, and words on a wait.
         assert_eq!(shown("url(#tip"), number(&run, |end| matches!(end, End::Arrived(_))) + 3);
@@ -82,7 +83,7 @@ fn a_picture_shows_every_letter_delivery_and_wait() {
 #[test]
 fn every_stored_journal_is_drawn_or_refused_as_replay_refuses_it() {
     for stored in stored_journals() {
-        let refusal = Run::of_journal(&stored.journal).map(|run| svg(&run).len()).err();
+        let refusal = Run::of_journal(&stored.journal).map(|run| svg(&run, &Names::none()).len()).err();
         let expected = replay(&stored.journal).err();
         assert_eq!(refusal.map(|r| r.number()), expected.map(|r| r.number()), "{}", stored.name);
     }
@@ -95,5 +96,31 @@ fn a_message_that_cannot_come_is_waited_for() {
     assert_eq!(run.waiting.len(), 1);
     let wait = &run.waiting[0];
     assert_eq!((wait.process, wait.message, &wait.for_messages[..]), (2, 2, &[0][..]));
-    assert!(svg(&run).contains("2 waits for 0"));
+    assert!(svg(&run, &Names::none()).contains("2 waits for 0"));
+}
+
+fn named(run: &Run, names: &[&str]) -> String {
+    svg(run, &Names::new(names.iter().map(|name| name.to_string()).collect()).unwrap())
+}
+
+/// The place in the picture at which the line of process 0 begins.
+fn line_start(picture: &str) -> f64 {
+    let (_, label) = picture.split_once(">group 0</text>").expect("the label of process 0");
+    let (_, path) = label.split_once("d=\"M").expect("its line");
+    path.split(' ').next().unwrap().parse().expect("a number")
+}
+
+#[test]
+fn names_label_the_lines_and_are_left_of_them() {
+    let journal = fs::read(root().join("tests/journals/known-3.journal")).unwrap();
+    let run = Run::of_journal(&journal).unwrap();
+    let picture = named(&run, &["office", "weighbridge", "<a> & b"]);
+    for label in [">0 office<", ">1 weighbridge<", ">2 &lt;a&gt; &amp; b<"] {
+        assert_eq!(picture.matches(label).count(), 1, "{label}");
+    }
+    assert!(!picture.contains(">process "));
+    assert_eq!(line_start(&svg(&run, &Names::none())), 104.0);
+    let widest = "W".repeat(24);
+    let wide = line_start(&named(&run, &["office", &widest, "mixer"]));
+    assert!(wide >= 12.0 + 26.0 * 13.3, "the label of a wide name ends before {wide}");
 }

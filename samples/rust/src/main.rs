@@ -1,14 +1,15 @@
-//! A recipe that is overtaken. The office sends the press a new recipe (message 0), then tells the mixer to start (1).
-//! The mixer starts and tells the press that a batch is on its way (2). The batch's letters reach the press before the
-//! recipe's: the press has message 2, but does not act on it before message 0, which causally precedes it.
+//! A recipe that is overtaken. The office sends the mixers a recipe change (message 0) and the weighbridge a release (1).
+//! The weighbridge acts on the release and calls the batch at the mixers (2). The line from the office to the mixers is
+//! slow, and the call comes before the recipe: the mixer has the call, but does not act on it before the recipe, which
+//! causally precedes it.
 
 use engine::{LetterKind, Refusal, Step, World};
 
-const NAMES: [&str; 3] = ["office", "mixer", "press"];
-const BODIES: [&str; 3] = ["use the new recipe", "start a batch", "a batch is on its way"];
+const NAMES: [&str; 3] = ["office", "weighbridge", "mixer"];
+const BODIES: [&str; 3] = ["the new recipe", "release of order 7", "call for order 7"];
 const OFFICE: u8 = 0;
-const MIXER: u8 = 1;
-const PRESS: u8 = 2;
+const WEIGHBRIDGE: u8 = 1;
+const MIXER: u8 = 2;
 
 struct Mill {
     world: World,
@@ -37,7 +38,7 @@ impl Mill {
 
     /// Each machine acts on what is new in its causal log, in the log's order.
     fn act(&mut self) -> Result<(), Refusal> {
-        for machine in [OFFICE, MIXER, PRESS] {
+        for machine in [OFFICE, WEIGHBRIDGE, MIXER] {
             let log = self.world.causal_log(machine)?;
             let acted = &mut self.acted[usize::from(machine)];
             for &message in &log[*acted..] {
@@ -48,8 +49,20 @@ impl Mill {
         Ok(())
     }
 
+    /// What the network has still to carry.
+    fn print_letters(&self) {
+        for letter in self.world.letters() {
+            println!(
+                "still travelling: message {} from {} to {}",
+                letter.message,
+                name(letter.from),
+                name(letter.to)
+            );
+        }
+    }
+
     fn print_logs(&self) -> Result<(), Refusal> {
-        for machine in [OFFICE, MIXER, PRESS] {
+        for machine in [OFFICE, WEIGHBRIDGE, MIXER] {
             let fifo = items(self.world.fifo_log(machine)?);
             let causal = items(self.world.causal_log(machine)?);
             println!("{}: FIFO{fifo}; causal{causal}", name(machine));
@@ -70,18 +83,19 @@ fn main() -> Result<(), Refusal> {
     let mut mill = Mill { world: World::new(&[0, 1, 2])?, acted: [0; 3] };
     mill.multicast(OFFICE, 2)?;
     mill.multicast(OFFICE, 1)?;
-    mill.arrive(LetterKind::First, 1, OFFICE, MIXER)?;
-    mill.arrive(LetterKind::Ok, 1, MIXER, MIXER)?;
-    mill.multicast(MIXER, 2)?;
-    mill.arrive(LetterKind::First, 2, MIXER, PRESS)?;
-    mill.arrive(LetterKind::Ok, 2, PRESS, PRESS)?;
+    mill.arrive(LetterKind::First, 1, OFFICE, WEIGHBRIDGE)?;
+    mill.arrive(LetterKind::Ok, 1, WEIGHBRIDGE, WEIGHBRIDGE)?;
+    mill.multicast(WEIGHBRIDGE, 2)?;
+    mill.arrive(LetterKind::First, 2, WEIGHBRIDGE, MIXER)?;
+    mill.arrive(LetterKind::Ok, 2, MIXER, MIXER)?;
+    mill.print_letters();
     mill.print_logs()?;
-    mill.arrive(LetterKind::First, 0, OFFICE, PRESS)?;
-    mill.arrive(LetterKind::Ok, 0, PRESS, PRESS)?;
+    mill.arrive(LetterKind::First, 0, OFFICE, MIXER)?;
+    mill.arrive(LetterKind::Ok, 0, MIXER, MIXER)?;
     mill.print_logs()?;
 
     // A letter arrives once only.
-    let again = mill.world.step(Step::arrival(LetterKind::Ok, 0, PRESS, PRESS));
+    let again = mill.world.step(Step::arrival(LetterKind::Ok, 0, MIXER, MIXER));
     println!("the same letter again: {}", again.expect_err("a letter that is no longer in flight"));
     Ok(())
 }

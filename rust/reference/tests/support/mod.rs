@@ -45,6 +45,22 @@ pub fn logs(world: &World, process: usize) -> (&[usize], &[usize]) {
     (&process.fifo_log, &process.causal_log)
 }
 
+/// A settle that may make so many arrivals says done.
+pub const BUDGET: u32 = 33_792;
+
+/// Each message that a live process multicast or that any process FIFO-delivered is in the FIFO log of every live
+/// addressee.
+pub fn agreed(world: &World) -> bool {
+    let in_fifo = |p: usize, m: usize| world.processes[p].fifo_log.contains(&m);
+    let processes = 0..world.processes.len();
+    (0..world.messages.len()).all(|m| {
+        let multicast_by_live = world.processes[world.messages[m].sender].up;
+        let owed = multicast_by_live || processes.clone().any(|p| in_fifo(p, m));
+        let lacks = |q: usize| world.processes[q].up && world.is_addressee(m, q) && !in_fifo(q, m);
+        !owed || !processes.clone().any(lacks)
+    })
+}
+
 pub fn journal_of(records: &[Record]) -> Vec<u8> {
     let records = records.concat();
     let mut journal = vec![0; journal::length(records.len()).unwrap()];

@@ -76,8 +76,14 @@ impl Canvas {
     /// Text by the point where it starts, or by its middle if the style says so.
     pub fn text(&mut self, at: Point, fill: &str, style: &str, words: &str) {
         let (x, y) = at;
+        let words = escaped(words);
         self.elements += &format!("<text x=\"{x:.1}\" y=\"{y:.1}\" fill=\"{fill}\" {style}>{words}</text>\n");
     }
+}
+
+/// Words as they stand in SVG.
+fn escaped(words: &str) -> String {
+    words.replace('&', "&amp;").replace('<', "&lt;").replace('>', "&gt;")
 }
 
 /// White about the letters, over what they cross.

@@ -2,6 +2,7 @@
 
 use super::canvas::{colour, Canvas, Point, ALARM, BOLD_MIDDLE, FAINT, GREY, HALO, INK, SMALL_MIDDLE};
 use super::places::{caption, end_words, Places, WORDS};
+use crate::names::Names;
 use crate::run::{Run, What};
 
 /// The records of the journal, over the columns that they lead to.
@@ -24,11 +25,11 @@ pub fn time(canvas: &mut Canvas, run: &Run, places: &Places) {
 }
 
 /// The line of each process: solid while it is up.
-pub fn lines(canvas: &mut Canvas, run: &Run, places: &Places) {
+pub fn lines(canvas: &mut Canvas, run: &Run, names: &Names, places: &Places) {
     for (process, group) in run.groups.iter().enumerate() {
         let process = process as u8;
         let y = places.y(process);
-        canvas.text((12.0, y - 2.0), INK, "font-weight=\"bold\"", &format!("process {process}"));
+        canvas.text((12.0, y - 2.0), INK, "font-weight=\"bold\"", &names.label(process));
         canvas.text((12.0, y + 13.0), GREY, "", &format!("group {group}"));
         let crash = run.moments.iter().position(|m| m.process == process && m.what == What::Crash);
         let down = crash.map_or(places.end, |moment| places.x(moment));

@@ -1,10 +1,12 @@
 //! Where things stand: a column for each moment, a line for each process, and room for messages that wait.
 
 use super::canvas::Point;
+use crate::names::Names;
 use crate::numbers::{list, members};
 use crate::run::{Moment, Run, What};
 use engine::Refusal;
 
+/// What is left of the lines, at least.
 const LEFT: i32 = 104;
 const TOP: i32 = 96;
 const LINE: i32 = 92;
@@ -42,9 +44,10 @@ pub struct Places {
 }
 
 impl Places {
-    pub fn of(run: &Run) -> Places {
+    pub fn of(run: &Run, names: &Names) -> Places {
+        let start = start(names);
         let mut columns = Vec::new();
-        let mut x = LEFT + 12;
+        let mut x = start + 12;
         for moment in &run.moments {
             let width = column_width(moment);
             columns.push(f64::from(x) + f64::from(width) / 2.0);
@@ -59,7 +62,8 @@ impl Places {
         let bands = BAND * (rows - 1).max(0);
         let line = (LINE + bands).max(WORDS * (words + 1));
         let (top, below) = (TOP + bands, (WORDS * words).max(56));
-        Places { columns, line, top, below, lines, start: f64::from(LEFT), end: f64::from(end), waits, width }
+        let (start, end) = (f64::from(start), f64::from(end));
+        Places { columns, line, top, below, lines, start, end, waits, width }
     }
 
     pub fn x(&self, moment: usize) -> f64 {
@@ -82,6 +86,22 @@ impl Places {
     /// Where the diagram ends and the legend may begin.
     pub fn bottom(&self) -> i32 {
         self.top + (self.lines - 1) * self.line + self.below
+    }
+}
+
+/// Where lines begin: right of the longest name.
+fn start(names: &Names) -> i32 {
+    let widths = names.labels().map(|label| label.chars().map(bold_width).sum());
+    LEFT.max(12 + widths.max().unwrap_or(0) + 12)
+}
+
+/// No less than a bold character of a label takes.
+fn bold_width(character: char) -> i32 {
+    match character {
+        'm' | 'w' | 'M' | 'W' | '@' | '%' => 14,
+        'a'..='z' | '0'..='9' | ' ' => 9,
+        '!'..='~' => 11,
+        _ => 14,
     }
 }
 

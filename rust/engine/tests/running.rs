@@ -1,0 +1,381 @@
+//! What whoever runs a mill has to know: what to carry, what to keep, and when a world or a journal is full.
+
+use engine::{journal, Letter, LetterKind, Record, Refusal, Setup, Step, World};
+use engine::{MESSAGES, PROCESSES, SETTLE_ALL, WORDS};
+
+/// A world and the records that led to it.
+struct Mill {
+    world: World,
+    records: Vec<Record>,
+}
+
+impl Mill {
+    fn new(groups: &[u8]) -> Mill {
+        let setup = Setup::new(groups).unwrap();
+        Mill { world: World::from_setup(&setup).unwrap(), records: vec![setup.record()] }
+    }
+
+    fn take(&mut self, step: Step) {
+        self.world.step(step).unwrap();
+        self.records.push(step.record());
+    }
+
+    fn multicast(&mut self, process: u8, groups: &[u8]) {
+        self.take(Step::multicast(process, groups).unwrap());
+    }
+
+    /// The lowest letter with both ends up.
+    fn lowest(&self) -> Option<Letter> {
+        let world = &self.world;
+        world.letters().into_iter().find(|letter| world.is_up(letter.from) && world.is_up(letter.to))
+    }
+
+    /// Takes the lowest letters as arrivals, one by one, while there are any: how many.
+    fn carry(&mut self) -> u32 {
+        let mut arrivals = 0;
+        while let Some(letter) = self.lowest() {
+            self.take(Step::Arrival(letter));
+            arrivals += 1;
+        }
+        arrivals
+    }
+
+    fn journal(&self) -> Vec<u8> {
+        journal::from_records(&self.records).unwrap()
+    }
+
+    fn causal_log(&self, process: u8) -> &[u16] {
+        self.world.causal_log(process).unwrap()
+    }
+}
+
+fn replayed(journal: &[u8]) -> World {
+    let (world, replayed) = World::replay(journal).unwrap();
+    assert_eq!(replayed.refused, 0);
+    world
+}
+
+/// Six processes, several messages on their way, and one process down.
+fn busy_mill() -> Mill {
+    let mut mill = Mill::new(&[0, 1, 1, 2, 2, 2]);
+    mill.multicast(0, &[1, 2]);
+    mill.multicast(3, &[0, 2]);
+    mill.take(Step::arrival(LetterKind::First, 0, 0, 4));
+    mill.multicast(0, &[2]);
+    mill.take(Step::arrival(LetterKind::First, 2, 0, 5));
+    mill.take(Step::crash(4));
+    for process in [0, 1, 2, 3, 5] {
+        mill.take(Step::trust(process, &[0, 1, 2, 3, 5]).unwrap());
+    }
+    mill.multicast(1, &[0, 1, 2]);
+    mill
+}
+
+#[test]
+fn the_arrivals_of_a_settle_taken_as_steps_are_in_the_journal() {
+    let mut mill = busy_mill();
+    let before = mill.journal();
+    let mut settled = mill.world.clone();
+    let answer = settled.settle(SETTLE_ALL);
+    assert!(answer.done && answer.arrivals > 50, "{answer:?}");
+    assert_eq!(mill.carry(), answer.arrivals);
+    assert!(!mill.world.letters().is_empty(), "letters of the crashed process are left");
+    assert_eq!(mill.world.words(), settled.words());
+    assert_eq!(replayed(&mill.journal()).words(), settled.words());
+    assert_ne!(replayed(&before).words(), settled.words());
+}
+
+#[test]
+fn a_letter_of_a_process_to_itself_must_be_carried() {
+    let mut mill = Mill::new(&[0, 1, 1]);
+    mill.multicast(0, &[1]);
+    let other = |mill: &Mill| mill.world.letters().into_iter().find(|letter| letter.from != letter.to);
+    while let Some(letter) = other(&mill) {
+        mill.take(Step::Arrival(letter));
+    }
+    for machine in [1, 2] {
+        assert!(mill.causal_log(machine).is_empty());
+        mill.take(Step::arrival(LetterKind::Ok, 0, machine, machine));
+        assert_eq!(mill.causal_log(machine), [0]);
+    }
+}
+
+#[test]
+fn a_letter_of_a_crashed_sender_may_still_arrive_and_lead_to_a_delivery() {
+    let mut mill = Mill::new(&[0, 1]);
+    mill.multicast(0, &[1]);
+    mill.take(Step::crash(0));
+    assert_eq!(mill.world.clone().settle(SETTLE_ALL).arrivals, 0, "a settle leaves it in flight");
+    mill.take(Step::arrival(LetterKind::First, 0, 0, 1));
+    mill.take(Step::arrival(LetterKind::Ok, 0, 1, 1));
+    assert_eq!(mill.causal_log(1), [0]);
+}
+
+#[test]
+fn a_letter_to_a_crashed_receiver_is_refused_as_an_arrival_and_taken_as_a_loss() {
+    let mut mill = Mill::new(&[0, 1]);
+    mill.multicast(0, &[1]);
+    mill.take(Step::crash(1));
+    let before = mill.world.clone();
+    assert_eq!(mill.world.step(Step::arrival(LetterKind::First, 0, 0, 1)), Err(Refusal::Down));
+    assert_eq!(Refusal::Down.number(), 9);
+    assert_eq!(mill.world.words(), before.words());
+    mill.take(Step::loss(LetterKind::First, 0, 0, 1));
+    assert!(mill.world.letters().is_empty());
+}
+
+#[test]
+fn a_full_world_refuses_the_65th_multicast_and_stays_as_it_is() {
+    let mut mill = Mill::new(&[0, 1]);
+    for _ in 0..MESSAGES {
+        mill.multicast(0, &[1]);
+    }
+    let full = mill.world.clone();
+    for process in [0, 1] {
+        let refused = mill.world.step(Step::multicast(process, &[0, 1]).unwrap());
+        assert_eq!(refused, Err(Refusal::Full));
+        assert_eq!(mill.world.words(), full.words());
+    }
+    assert_eq!(Refusal::Full.number(), 10);
+    mill.carry();
+    assert_eq!(mill.causal_log(1).len(), MESSAGES);
+    assert_eq!(mill.world.step(Step::multicast(0, &[1]).unwrap()), Err(Refusal::Full));
+}
+
+/// In the largest group each message takes 273 records: its multicast, 16 first letters and 16 x 16 OKs.
+#[test]
+fn a_journal_is_full_at_the_30th_message_to_16_processes() {
+    let mut mill = Mill::new(&[0; PROCESSES]);
+    let mut sent = 0;
+    while journal::length(8 * mill.records.len()).is_ok() {
+        assert_eq!(mill.records.len(), 1 + 273 * sent);
+        mill.multicast((sent % PROCESSES) as u8, &[0]);
+        assert_eq!(mill.carry(), 272);
+        sent += 1;
+        assert_eq!(mill.causal_log(0).len(), sent);
+    }
+    assert_eq!((sent, mill.records.len()), (30, 8_191));
+    assert_eq!(journal::length(8 * 8_191), Err(Refusal::RecordsLength));
+    assert_eq!(Refusal::RecordsLength.number(), 16);
+    assert_eq!(journal::from_records(&mill.records), Err(Refusal::RecordsLength));
+    let without_the_last = &mill.records[..7_918];
+    assert_eq!(replayed(&journal::from_records(without_the_last).unwrap()).messages(), 29);
+    assert_eq!(journal::from_records(&mill.records[..journal::RECORDS]).map(|j| j.len()), Ok(journal::BYTES));
+}
+
+/// Whether the journal of a world can be written when 64 messages have gone to all of so many processes.
+fn world_is_full_first(processes: usize) -> bool {
+    let mut mill = Mill::new(&vec![0; processes]);
+    for _ in 0..MESSAGES {
+        mill.multicast(0, &[0]);
+        mill.carry();
+    }
+    assert_eq!(mill.records.len(), 1 + MESSAGES * (1 + processes + processes * processes));
+    journal::length(8 * mill.records.len()).is_ok()
+}
+
+#[test]
+fn without_relays_a_world_for_10_processes_is_full_before_its_journal() {
+    assert!(world_is_full_first(10));
+    assert!(!world_is_full_first(11));
+}
+
+/// Whether the journal can be written when 64 messages to so many processes arrive the last one first.
+fn world_is_full_first_with_relays(processes: usize) -> bool {
+    let mut mill = Mill::new(&vec![0; processes]);
+    for _ in 0..MESSAGES {
+        mill.multicast(0, &[0]);
+    }
+    while let Some(letter) = mill.world.letters().pop() {
+        mill.take(Step::Arrival(letter));
+    }
+    assert_eq!(mill.causal_log(0).len(), MESSAGES);
+    let most = 1 + MESSAGES * (1 + processes + 2 * processes * processes);
+    assert!(mill.records.len() > most * 9 / 10 && mill.records.len() <= most, "{}", mill.records.len());
+    assert_eq!(most <= journal::RECORDS, processes <= 7);
+    journal::length(8 * mill.records.len()).is_ok()
+}
+
+#[test]
+fn a_world_for_7_processes_is_full_before_its_journal() {
+    assert!(world_is_full_first_with_relays(7));
+    assert!(!world_is_full_first_with_relays(8));
+}
+
+#[test]
+fn a_letter_of_an_earlier_world_would_be_taken_in_the_next() {
+    let late = Step::arrival(LetterKind::First, 0, 0, 1);
+    let mut mill = Mill::new(&[0, 1]);
+    mill.multicast(0, &[1]);
+    mill.carry();
+    assert_eq!(mill.world.step(late), Err(Refusal::NotInFlight), "twice in one world");
+    let mut next = Mill::new(&[0, 1]);
+    next.multicast(0, &[1]);
+    next.take(late);
+}
+
+/// The words before the first step that has no place in the journal, then that step and those that follow.
+#[test]
+fn a_world_goes_on_from_its_words_when_its_journal_is_full() {
+    let mut mill = busy_mill();
+    let full = mill.records.len();
+    let words = mill.world.words().to_vec();
+    mill.carry();
+    let mut back = World::from_words(words).unwrap();
+    for record in &mill.records[full..] {
+        back.step_bytes(record).unwrap();
+    }
+    assert_eq!(back, mill.world);
+}
+
+#[test]
+fn a_trust_step_alone_can_deliver_and_send_letters() {
+    let mut mill = Mill::new(&[0, 1, 1]);
+    mill.multicast(0, &[1]);
+    mill.multicast(0, &[1]);
+    mill.take(Step::crash(2));
+    mill.carry();
+    assert!(mill.causal_log(1).is_empty() && mill.lowest().is_none());
+    mill.take(Step::trust(1, &[0, 1]).unwrap());
+    assert_eq!(mill.causal_log(1), [0]);
+    assert!(mill.lowest().is_some());
+}
+
+#[test]
+fn a_record_more_changes_only_the_last_block() {
+    let mill = busy_mill();
+    let most: Vec<Record> = mill.records.iter().cycle().take(200).copied().collect();
+    for records in 1..most.len() {
+        let shorter = journal::from_records(&most[..records]).unwrap();
+        let longer = journal::from_records(&most[..=records]).unwrap();
+        let full = records / 63 * 512;
+        assert_eq!(shorter[..full], longer[..full]);
+        assert!(full == 0 || journal::count(&longer[..full]) == Ok(records / 63 * 63), "a journal too");
+    }
+}
+
+/// The words of a world as bytes, low byte first.
+fn kept(world: &World) -> Vec<u8> {
+    world.words().iter().flat_map(|word| word.to_le_bytes()).collect()
+}
+
+fn words(bytes: &[u8]) -> Vec<u16> {
+    bytes.chunks(2).map(|pair| u16::from_le_bytes([pair[0], pair[1]])).collect()
+}
+
+#[test]
+fn a_world_kept_as_bytes_comes_back_and_goes_on() {
+    let mut mill = busy_mill();
+    let bytes = kept(&mill.world);
+    assert_eq!(bytes.len(), 2 * WORDS);
+    let mut back = World::from_words(words(&bytes)).unwrap();
+    assert_eq!(back.words(), mill.world.words());
+    mill.carry();
+    assert!(back.settle(SETTLE_ALL).done);
+    assert_eq!(back.words(), mill.world.words());
+}
+
+#[test]
+fn kept_bytes_that_make_no_sound_world_are_refused() {
+    let bytes = kept(&busy_mill().world);
+    let changed = |at: usize, byte: u8| {
+        let mut bytes = bytes.clone();
+        bytes[at] = byte;
+        World::from_words(words(&bytes)).map_err(Refusal::number)
+    };
+    assert_eq!(changed(0, 7), Err(2), "a seventh process");
+    assert_eq!(changed(4, 1), Err(2), "an unused word");
+    assert_eq!(changed(bytes.len() - 1, 1), Err(2), "the last byte");
+    let swapped: Vec<u8> = bytes.chunks(2).flat_map(|pair| [pair[1], pair[0]]).collect();
+    assert_eq!(World::from_words(words(&swapped)), Err(Refusal::NotSound));
+    assert_eq!(World::from_words(words(&bytes[2..])), Err(Refusal::WorldLength));
+}
+
+/// Kept words have no check: that a block of a journal is damaged is noticed, that a sound world is another is not.
+#[test]
+fn a_change_that_leaves_a_world_sound_is_not_noticed() {
+    let mill = busy_mill();
+    let trust_of_0 = 3 + 1;
+    let mut changed = mill.world.words().to_vec();
+    changed[trust_of_0] ^= 1 << 2;
+    assert_ne!(World::from_words(changed).unwrap(), mill.world);
+    let mut damaged = mill.journal();
+    damaged[100] ^= 1;
+    assert_eq!(World::replay(&damaged), Err(Refusal::Check));
+}
+
+/// What each machine has done, and how many messages of its causal log it has acted on: the number alone is kept.
+struct Machines {
+    done: Vec<Vec<u16>>,
+    acted_on: Vec<usize>,
+}
+
+impl Machines {
+    fn new(world: &World) -> Machines {
+        let machines = world.processes();
+        Machines { done: vec![Vec::new(); machines], acted_on: vec![0; machines] }
+    }
+
+    /// The machine acts on what is new in its causal log.
+    fn act(&mut self, world: &World, machine: usize) {
+        for &message in &world.causal_log(machine as u8).unwrap()[self.acted_on[machine]..] {
+            self.done[machine].push(message);
+            self.acted_on[machine] += 1;
+        }
+    }
+}
+
+/// Takes the steps from one record to another, and after each the machines act. After the last one only some machines
+/// have acted when all stops.
+fn run_until_stopped(world: &mut World, machines: &mut Machines, records: &[Record]) {
+    for (i, record) in records.iter().enumerate() {
+        world.step_bytes(record).unwrap();
+        let stops = i + 1 == records.len();
+        for machine in (0..world.processes()).filter(|machine| !stops || machine % 2 == 0) {
+            machines.act(world, machine);
+        }
+    }
+}
+
+#[test]
+fn after_a_restart_no_message_is_acted_on_twice_or_left_out() {
+    let mut mill = busy_mill();
+    mill.carry();
+    let mut behind = 0;
+    for stop in 1..mill.records.len() {
+        let mut machines = Machines::new(&mill.world);
+        let mut world = replayed(&journal::from_records(&mill.records[..1]).unwrap());
+        run_until_stopped(&mut world, &mut machines, &mill.records[1..=stop]);
+        let mut world = replayed(&journal::from_records(&mill.records[..=stop]).unwrap());
+        for machine in 0..world.processes() {
+            behind += world.causal_log(machine as u8).unwrap().len() - machines.acted_on[machine];
+            machines.act(&world, machine);
+        }
+        run_until_stopped(&mut world, &mut machines, &mill.records[stop + 1..]);
+        for machine in 0..world.processes() {
+            machines.act(&world, machine);
+            assert_eq!(machines.done[machine], mill.causal_log(machine as u8), "stopped at {stop}");
+        }
+    }
+    assert!(behind > 3, "{behind} messages were acted on only after a restart");
+    assert!((0..6).filter(|&machine| mill.causal_log(machine).len() > 1).count() > 3);
+}
+
+#[test]
+fn order_does_not_carry_over_to_another_world() {
+    let (mut first, mut second) = (Mill::new(&[0, 1]), Mill::new(&[0, 1]));
+    first.multicast(0, &[1]);
+    second.multicast(0, &[1]);
+    second.carry();
+    assert_eq!(second.causal_log(1), [0]);
+    assert!(first.causal_log(1).is_empty() && !first.world.letters().is_empty());
+
+    // In one world the later message is held back for the earlier one.
+    first.multicast(0, &[1]);
+    while let Some(letter) = first.world.letters().into_iter().find(|letter| letter.message == 1) {
+        first.take(Step::Arrival(letter));
+    }
+    assert!(first.causal_log(1).is_empty());
+    first.carry();
+    assert_eq!(first.causal_log(1), [0, 1]);
+}

@@ -1,0 +1,62 @@
+/*
+ * Numbers that have no place in a record. The functions that write records refuse them and leave no step: whoever
+ * takes the record all the same is refused, and the world stays as it was, though a step stood in the record before.
+ */
+#include <stdio.h>
+#include <string.h>
+#include <wardrobeteal.h>
+
+static uint16_t world[WT_WORLD_WORDS], before[WT_WORLD_WORDS];
+static uint8_t record[WT_RECORD_BYTES];
+
+/* A record in which a step stands that the world would take. */
+static uint8_t *used(void) {
+    wt_put_multicast(record, 0, WT_GROUP(1));
+    return record;
+}
+
+/* What writing a step answered, and what comes of taking the record all the same. */
+static void print_step(const char *what, uint32_t put) {
+    uint32_t i, sum = 0, taken;
+    for (i = 0; i < WT_RECORD_BYTES; i++) sum += record[i];
+    memcpy(before, world, sizeof world);
+    taken = wt_step(world, WT_WORLD_WORDS, record, sizeof record);
+    printf("%s: refusal %u, record %s, taken all the same: refusal %u, world %s\n", what, (unsigned)put,
+           sum == 0 ? "zeros" : "written", (unsigned)taken,
+           memcmp(before, world, sizeof world) == 0 ? "as it was" : "changed");
+}
+
+static void print_setup(const char *what, const uint8_t *groups, size_t processes) {
+    uint32_t put = wt_put_setup(used(), groups, processes);
+    printf("%s: refusal %u, made all the same: refusal %u\n", what, (unsigned)put,
+           (unsigned)wt_world_make(world, WT_WORLD_WORDS, record, sizeof record));
+}
+
+int main(void) {
+    const uint8_t groups[] = {0, 1, 1};
+    const uint8_t wrong[] = {0, 8};
+    const uint8_t seventeen[17] = {0};
+    const uint64_t large = UINT64_C(0x100000003);
+    wt_put_setup(record, groups, 3);
+    wt_world_make(world, WT_WORLD_WORDS, record, sizeof record);
+    print_step("crash 259", wt_put_crash(used(), 259));
+    print_step("crash -1", wt_put_crash(used(), (uint64_t)-1));
+    print_step("crash 2^32 + 3", wt_put_crash(used(), large));
+    print_step("multicast 256 to 1", wt_put_multicast(used(), 256, WT_GROUP(1)));
+    print_step("multicast 0 to 1 9", wt_put_multicast(used(), 0, WT_GROUP(1) | WT_GROUP(9)));
+    print_step("multicast 0 to 65", wt_put_multicast(used(), 0, WT_GROUP(65)));
+    print_step("multicast 256 to 9", wt_put_multicast(used(), 256, WT_GROUP(9)));
+    print_step("arrival kind 256 of 0 from 0 to 1", wt_put_arrival(used(), 256, 0, 0, 1));
+    print_step("arrival first 256 from 0 to 1", wt_put_arrival(used(), WT_LETTER_FIRST, 256, 0, 1));
+    print_step("arrival first 0 from 256 to 1", wt_put_arrival(used(), WT_LETTER_FIRST, 0, 256, 1));
+    print_step("loss first 0 from 0 to 257", wt_put_loss(used(), WT_LETTER_FIRST, 0, 0, 257));
+    print_step("trust 0 in 0 17", wt_put_trust(used(), 0, WT_PROCESS(0) | WT_PROCESS(17)));
+    print_step("trust 258 in 0", wt_put_trust(used(), 258, WT_PROCESS(0)));
+    /* These have a place, and the world has no such process. */
+    print_step("crash 3", wt_put_crash(used(), 3));
+    print_step("trust 0 in 0 15", wt_put_trust(used(), 0, WT_PROCESS(0) | WT_PROCESS(15)));
+    print_setup("setup 0 8", wrong, 2);
+    print_setup("setup of 17", seventeen, 17);
+    print_setup("setup of none", groups, 0);
+    return 0;
+}
