@@ -44,8 +44,8 @@
 #include <stdint.h>
 
 /* The version of this header, as text and as the number that wt_version gives. */
-#define WT_VERSION "9.0.0"
-#define WT_VERSION_NUMBER 9000000
+#define WT_VERSION "9.1.0"
+#define WT_VERSION_NUMBER 9001000
 
 #ifdef __cplusplus
 extern "C" {
@@ -95,7 +95,9 @@ uint32_t wt_world_make(uint16_t *world, size_t world_length, const uint8_t *setu
 
 /*
  * Takes a step.
- *   step, step_length   8 bytes, a kind, its operands, zeros; wt_put_multicast and the others below write them
+ *   step, step_length   8 bytes, a kind, its operands, zeros; wt_put_multicast and the others below write them. The
+ *                       operands of a multicast are its process, its group mask and its order number, two bytes, low
+ *                       byte first; number 0 means no order
  * Returns 0, or refusal 1, 2, 4 to 12, the lowest that applies. Changes the words of world.
  */
 uint32_t wt_step(uint16_t *world, size_t world_length, const uint8_t *step, size_t step_length);
@@ -125,6 +127,14 @@ uint32_t wt_settle(uint16_t *world, size_t world_length, uint32_t budget, uint32
  */
 uint32_t wt_world_log(const uint16_t *world, size_t world_length, uint32_t process, bool causal, uint32_t *start,
                       uint32_t *items);
+
+/*
+ * Gives the order number of a message: the one that its multicast carried. Number 0 means no order.
+ *   message   the message
+ *   number    where its order number is put
+ * Returns 0, or refusal 1, 2, 7. Changes *number.
+ */
+uint32_t wt_order(const uint16_t *world, size_t world_length, uint32_t message, uint32_t *number);
 
 /*
  * Replays a journal, over whatever the words hold: makes the world from its first record, takes all others as steps.
@@ -303,10 +313,21 @@ static inline uint32_t wt_put_setup(uint8_t *setup, const uint8_t *groups, size_
     return 0;
 }
 
-/* The process multicasts the next message to the groups of the mask. Refusal 5, or 6 for a group above 7. */
+/*
+ * The process multicasts the next message to the groups of the mask, with an order number. Refusal 4 for an order
+ * number above 65,535, which would reach into the bytes that must be zero; 5; or 6 for a group above 7.
+ */
+static inline uint32_t wt_put_multicast_with_order(uint8_t *step, uint64_t process, uint64_t groups, uint64_t order) {
+    uint32_t refusal = order > 0xFFFF   ? WT_REFUSAL_FORM
+                       : process > 0xFF ? WT_REFUSAL_PROCESS
+                       : groups > 0xFF  ? WT_REFUSAL_GROUP_MASK
+                                        : 0;
+    return wt_put_record(step, refusal, WT_STEP_MULTICAST, process, groups, order & 0xFF, order >> 8);
+}
+
+/* The same with no order, number 0. Refusal 5, or 6 for a group above 7. */
 static inline uint32_t wt_put_multicast(uint8_t *step, uint64_t process, uint64_t groups) {
-    uint32_t refusal = process > 0xFF ? WT_REFUSAL_PROCESS : groups > 0xFF ? WT_REFUSAL_GROUP_MASK : 0;
-    return wt_put_record(step, refusal, WT_STEP_MULTICAST, process, groups, 0, 0);
+    return wt_put_multicast_with_order(step, process, groups, 0);
 }
 
 /* The letter arrives. Refusal 4, 5, 7. */

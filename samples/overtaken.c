@@ -2,7 +2,8 @@
  * A recipe that is overtaken. The office sends the mixers a recipe change (message 0) and the weighbridge a release (1).
  * The weighbridge acts on the release and calls the batch at the mixers (2). The line from the office to the mixers is
  * slow, and the call comes before the recipe: the mixer has the call, but does not act on it before the recipe, which
- * causally precedes it.
+ * causally precedes it. The recipe and the batch are for one sales order, whose number they carry; the release is for
+ * none.
  *
  * cc -Idist samples/overtaken.c dist/libengine.a -o overtaken && ./overtaken
  */
@@ -13,7 +14,10 @@
 enum { OFFICE, WEIGHBRIDGE, MIXER, MACHINES };
 
 static const char *const names[MACHINES] = {"office", "weighbridge", "mixer"};
-static const char *const bodies[] = {"the new recipe", "release of order 7", "call for order 7"};
+static const char *const bodies[] = {"the new recipe", "release of lorry 7", "call for the batch"};
+
+/* Order numbers: that of the sales order, and the one that means no order. */
+enum { NO_ORDER = 0, SALES_ORDER = 1017 };
 
 /* The engine's storage, and how many messages of its causal log each machine has acted on. */
 static uint16_t world[WT_WORLD_WORDS];
@@ -33,24 +37,33 @@ static const uint16_t *log_of(uint32_t machine, bool causal, uint32_t *items) {
     return world + start;
 }
 
+/* A message, with the order that it is for. */
+static void print_message(uint32_t message) {
+    uint32_t order = NO_ORDER;
+    check(wt_order(world, WT_WORLD_WORDS, message, &order));
+    printf("message %u: %s", (unsigned)message, bodies[message]);
+    if (order != NO_ORDER) printf(", order %u", (unsigned)order);
+    printf("\n");
+}
+
 /* Each machine acts on what is new in its causal log, in the log's order. */
 static void act(void) {
     uint32_t machine, items;
     for (machine = 0; machine < MACHINES; machine++) {
         const uint16_t *log = log_of(machine, true, &items);
         for (; acted[machine] < items; acted[machine]++) {
-            uint32_t message = log[acted[machine]];
-            printf("  %s acts on message %u: %s\n", names[machine], (unsigned)message, bodies[message]);
+            printf("  %s acts on ", names[machine]);
+            print_message(log[acted[machine]]);
         }
     }
 }
 
 static uint32_t take(const uint8_t *step) { return wt_step(world, WT_WORLD_WORDS, step, WT_RECORD_BYTES); }
 
-static void multicast(uint32_t from, uint32_t group) {
+static void multicast(uint32_t from, uint32_t group, uint32_t order) {
     uint8_t step[WT_RECORD_BYTES];
     uint32_t message = wt_messages(world);
-    check(wt_put_multicast(step, from, WT_GROUP(group)));
+    check(wt_put_multicast_with_order(step, from, WT_GROUP(group), order));
     check(take(step));
     printf("%s sends message %u to group %u: %s\n", names[from], (unsigned)message, (unsigned)group,
            bodies[message]);
@@ -107,11 +120,11 @@ int main(void) {
     check(wt_put_setup(record, groups, MACHINES));
     check(wt_world_make(world, WT_WORLD_WORDS, record, sizeof record));
 
-    multicast(OFFICE, 2);
-    multicast(OFFICE, 1);
+    multicast(OFFICE, 2, SALES_ORDER);
+    multicast(OFFICE, 1, NO_ORDER);
     arrive(WT_LETTER_FIRST, 1, OFFICE, WEIGHBRIDGE);
     arrive(WT_LETTER_OK, 1, WEIGHBRIDGE, WEIGHBRIDGE);
-    multicast(WEIGHBRIDGE, 2);
+    multicast(WEIGHBRIDGE, 2, SALES_ORDER);
     arrive(WT_LETTER_FIRST, 2, WEIGHBRIDGE, MIXER);
     arrive(WT_LETTER_OK, 2, MIXER, MIXER);
     print_letters();

@@ -59,6 +59,10 @@ static void print_records(void) {
            (unsigned)wt_put_setup(record, seventeen, 17));
     wt_put_multicast(record, 15, WT_GROUP(0) | WT_GROUP(7));
     print_record("multicast 15 to 0 7", record);
+    wt_put_multicast_with_order(record, 15, WT_GROUP(0) | WT_GROUP(7), 1017);
+    print_record("multicast 15 to 0 7 order 1017", record);
+    wt_put_multicast_with_order(record, 15, WT_GROUP(0) | WT_GROUP(7), 65535);
+    print_record("multicast 15 to 0 7 order 65535", record);
     wt_put_arrival(record, WT_LETTER_FIRST, 63, 1, 2);
     print_record("arrival first 63 from 1 to 2", record);
     wt_put_arrival(record, WT_LETTER_RELAY, 3, 4, 5);
@@ -90,11 +94,15 @@ static void print_processes(void) {
 }
 
 static void print_messages(void) {
-    uint32_t m, sender, groups;
+    uint32_t m, sender, groups, order = 0, refused = 0;
     for (m = 0; m <= WT_MESSAGES; m++) {
-        if (!wt_sender(world, m, &sender) || !wt_group_mask(world, m, &groups)) continue;
-        printf("message %u: sender %u, groups %02x\n", (unsigned)m, (unsigned)sender, (unsigned)groups);
+        uint32_t answer = wt_order(world, WT_WORLD_WORDS, m, &order);
+        refused += answer == WT_REFUSAL_MESSAGE;
+        if (!wt_sender(world, m, &sender) || !wt_group_mask(world, m, &groups) || answer != 0) continue;
+        printf("message %u: sender %u, groups %02x, order %u\n", (unsigned)m, (unsigned)sender, (unsigned)groups,
+               (unsigned)order);
     }
+    printf("no such message: %u\n", (unsigned)refused);
 }
 
 static uint32_t take(const uint8_t *step) { return wt_step(world, WT_WORLD_WORDS, step, WT_RECORD_BYTES); }
@@ -109,8 +117,8 @@ static void print_world(void) {
     uint32_t answers = wt_put_setup(record, groups, 3);
     answers += wt_world_make(world, WT_WORLD_WORDS, record, sizeof record);
     then(&answers, wt_put_multicast(record, 0, WT_GROUP(1)), record);
-    then(&answers, wt_put_multicast(record, 1, WT_GROUP(0) | WT_GROUP(1)), record);
-    then(&answers, wt_put_multicast(record, 0, WT_GROUP(1)), record);
+    then(&answers, wt_put_multicast_with_order(record, 1, WT_GROUP(0) | WT_GROUP(1), 1017), record);
+    then(&answers, wt_put_multicast_with_order(record, 0, WT_GROUP(1), 65535), record);
     then(&answers, wt_put_arrival(record, WT_LETTER_FIRST, 2, 0, 1), record);
     then(&answers, wt_put_trust(record, 1, WT_PROCESS(0) | WT_PROCESS(1)), record);
     then(&answers, wt_put_crash(record, 2), record);

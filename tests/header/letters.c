@@ -54,11 +54,13 @@ static void make(void) {
     refused += wt_world_make(world, WT_WORLD_WORDS, setup, sizeof setup);
 }
 
-/* 64 messages to all; then each process but the first gets two of each sender, the later one first. */
+/* 64 messages with order numbers to all; then each process but the first gets two of each sender, the later first. */
 static void fill(void) {
     uint8_t step[WT_RECORD_BYTES];
     uint32_t m, p;
-    for (m = 0; m < WT_MESSAGES; m++) take(wt_put_multicast(step, m % WT_PROCESSES, 0xFF), step);
+    for (m = 0; m < WT_MESSAGES; m++) {
+        take(wt_put_multicast_with_order(step, m % WT_PROCESSES, 0xFF, 1000 + m), step);
+    }
     for (m = 0; m < WT_PROCESSES; m++) {
         for (p = 1; p < WT_PROCESSES; p++) {
             take(wt_put_arrival(step, WT_LETTER_FIRST, m + 16, m, p), step);
@@ -79,14 +81,15 @@ static void all_fly(void) {
 
 /* What is read of the last process and the last message. */
 static void print_last(void) {
-    uint32_t group = 0, trusted = 0, sender = 0, groups = 0;
+    uint32_t group = 0, trusted = 0, sender = 0, groups = 0, order = 0;
     wt_group(world, 15, &group);
     wt_trust_mask(world, 15, &trusted);
     wt_sender(world, 63, &sender);
     wt_group_mask(world, 63, &groups);
+    refused += wt_order(world, WT_WORLD_WORDS, 63, &order);
     printf("process 15: group %u, trusts %04x, %s\n", (unsigned)group, (unsigned)trusted,
            wt_is_up(world, 15) ? "up" : "down");
-    printf("message 63: sender %u, groups %02x\n", (unsigned)sender, (unsigned)groups);
+    printf("message 63: sender %u, groups %02x, order %u\n", (unsigned)sender, (unsigned)groups, (unsigned)order);
 }
 
 int main(void) {

@@ -1,6 +1,7 @@
 /*
  * Numbers that have no place in a record. The functions that write records refuse them and leave no step: whoever
  * takes the record all the same is refused, and the world stays as it was, though a step stood in the record before.
+ * And order numbers that are asked for and refused: the number that was lent stays as it was.
  */
 #include <stdio.h>
 #include <string.h>
@@ -26,6 +27,25 @@ static void print_step(const char *what, uint32_t put) {
            memcmp(before, world, sizeof world) == 0 ? "as it was" : "changed");
 }
 
+/* What asking for the order number of a message answered, with so many words lent. */
+static void print_order(const char *what, size_t words, uint32_t message) {
+    uint32_t number = 7;
+    uint32_t answer = wt_order(world, words, message, &number);
+    printf("%s: refusal %u, number %u\n", what, (unsigned)answer, (unsigned)number);
+}
+
+/* Order numbers of a world of one message, and when the words are cut or those of no world. */
+static void print_orders(void) {
+    wt_put_multicast_with_order(record, 0, WT_GROUP(1), 1017);
+    wt_step(world, WT_WORLD_WORDS, record, sizeof record);
+    print_order("order of message 0", WT_WORLD_WORDS, 0);
+    print_order("order of message 1", WT_WORLD_WORDS, 1);
+    print_order("order of message 2^32 - 1", WT_WORLD_WORDS, 0xFFFFFFFF);
+    print_order("order of message 0, a word too few", WT_WORLD_WORDS - 1, 0);
+    world[WT_PLACE_COUNT] = WT_MESSAGES + 1;
+    print_order("order of message 0 of no world", WT_WORLD_WORDS, 0);
+}
+
 static void print_setup(const char *what, const uint8_t *groups, size_t processes) {
     uint32_t put = wt_put_setup(used(), groups, processes);
     printf("%s: refusal %u, made all the same: refusal %u\n", what, (unsigned)put,
@@ -46,6 +66,11 @@ int main(void) {
     print_step("multicast 0 to 1 9", wt_put_multicast(used(), 0, WT_GROUP(1) | WT_GROUP(9)));
     print_step("multicast 0 to 65", wt_put_multicast(used(), 0, WT_GROUP(65)));
     print_step("multicast 256 to 9", wt_put_multicast(used(), 256, WT_GROUP(9)));
+    print_step("multicast 0 to 1 order 65536", wt_put_multicast_with_order(used(), 0, WT_GROUP(1), 65536));
+    print_step("multicast 0 to 1 order 2^32 + 3", wt_put_multicast_with_order(used(), 0, WT_GROUP(1), large));
+    print_step("multicast 256 to 9 order 65536", wt_put_multicast_with_order(used(), 256, WT_GROUP(9), 65536));
+    print_step("multicast 256 to 9 order 65535", wt_put_multicast_with_order(used(), 256, WT_GROUP(9), 65535));
+    print_step("multicast 0 to 9 order 65535", wt_put_multicast_with_order(used(), 0, WT_GROUP(9), 65535));
     print_step("arrival kind 256 of 0 from 0 to 1", wt_put_arrival(used(), 256, 0, 0, 1));
     print_step("arrival first 256 from 0 to 1", wt_put_arrival(used(), WT_LETTER_FIRST, 256, 0, 1));
     print_step("arrival first 0 from 256 to 1", wt_put_arrival(used(), WT_LETTER_FIRST, 0, 256, 1));
@@ -55,6 +80,8 @@ int main(void) {
     /* These have a place, and the world has no such process. */
     print_step("crash 3", wt_put_crash(used(), 3));
     print_step("trust 0 in 0 15", wt_put_trust(used(), 0, WT_PROCESS(0) | WT_PROCESS(15)));
+    print_step("multicast 3 to 1 order 65535", wt_put_multicast_with_order(used(), 3, WT_GROUP(1), 65535));
+    print_orders();
     print_setup("setup 0 8", wrong, 2);
     print_setup("setup of 17", seventeen, 17);
     print_setup("setup of none", groups, 0);

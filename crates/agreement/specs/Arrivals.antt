@@ -277,31 +277,31 @@ trusted-net s p set n = record {
 }
 
 -- ---- a multicast: first letters to all addressees of a message that nobody holds
-module _ (s : State) (es : List Event) (p groups : ℕ) (o : MeaningOf s es) (sound : Sound s) where
+module _ (s : State) (es : List Event) (p groups order-no : ℕ) (o : MeaningOf s es) (sound : Sound s) where
   -- an old letter still flies
-  sent-old : (x j r u : ℕ) → x < s count → Fly s x j r u → Fly (multicast s p groups) x j r u
+  sent-old : (x j r u : ℕ) → x < s count → Fly s x j r u → Fly (multicast s p groups order-no) x j r u
   unfolding multicast post numbered stamped raised put with-tables
   sent-old x j r u =
-      put-letter s (s count) 0 p (addressees (multicast s p groups) (s count))
+      put-letter s (s count) 0 p (addressees (multicast s p groups order-no) (s count))
       (λ x j r v. x < s count → Fly s x j r u → bit v u ≡ true) (λ h _. absurd (omega arith)) (λ _ _ _ _ f. f)
       x j r
 
   -- the first letters fly to all addressees
-  first-letters : (u : ℕ) → u < s size → addressed (multicast s p groups) (s count) u ≡ true
-      → Fly (multicast s p groups) (s count) 0 p u
+  first-letters : (u : ℕ) → u < s size → addressed (multicast s p groups order-no) (s count) u ≡ true
+      → Fly (multicast s p groups order-no) (s count) 0 p u
   unfolding multicast post numbered stamped raised put with-tables
   first-letters u h a =
       rw (put-same s (flight (s count) 0 p) (flight (s count) 0 p)
-      (addressees (multicast s p groups) (s count)) refl) (in-addressees (multicast s p groups) (s count) u h a)
+      (addressees (multicast s p groups order-no) (s count)) refl) (in-addressees (multicast s p groups order-no) (s count) u h a)
 
   -- a multicast keeps what letters tell
-  pub multicast-net : s count < 64 → Net s → Net (multicast s p groups)
+  pub multicast-net : s count < 64 → Net s → Net (multicast s p groups order-no)
   unfolding multicast post numbered stamped raised put with-tables
-  multicast-net hc n = net-progress s (multicast s p groups) (record {
+  multicast-net hc n = net-progress s (multicast s p groups order-no) (record {
     same-size = refl;
     same-to = λ x r h. ap (λ (v : ℕ). bit v (s (group r))) (w .old-mask x h);
     same-sender = w .old-sender;
-    once = multicast-once s p groups;
+    once = multicast-once s p groups order-no;
     mark-on = λ x r u _ _ z. z;
     down-on = λ r e. e;
     flown = λ x j r u hx hr hu au z. still (sent-old x j r u hx z);
@@ -316,8 +316,8 @@ module _ (s : State) (es : List Event) (p groups : ℕ) (o : MeaningOf s es) (so
         inl (hx′, h, rw (near-is x r hx′) at y);
     new-message = old-or-new (o .counting) w
         (λ x. (x < s count)
-        ⊎ ToAll (multicast s p groups) x (multicast s p groups (sender x))
-        (λ r u. Fly (multicast s p groups) x 0 r u))
+        ⊎ ToAll (multicast s p groups order-no) x (multicast s p groups order-no (sender x))
+        (λ r u. Fly (multicast s p groups order-no) x 0 r u))
         (inr (λ u hu au. rw (w .new-sender) (first-letters u hu au)))
         (λ x hx. inl hx);
     logged =
@@ -325,10 +325,10 @@ module _ (s : State) (es : List Event) (p groups : ℕ) (o : MeaningOf s es) (so
     senders = sender-low s sound;
   }) n
     where
-      w : OneMore (messages s) (knowledge es) p groups (messages (multicast s p groups))
-      w = one-more s es p groups o
+      w : OneMore (messages s) (knowledge es) p groups (messages (multicast s p groups order-no))
+      w = one-more s es p groups order-no o
 
-      near-is : (x r : ℕ) → x < s count → Near (multicast s p groups) x r ≡ Near s x r
+      near-is : (x r : ℕ) → x < s count → Near (multicast s p groups order-no) x r ≡ Near s x r
       near-is x r h =
           ap₂ (λ (a b : ℕ). a ≤ s (next r b)) (w .old-number x (s (group r)) h) (w .old-sender x h)
 

@@ -70,10 +70,10 @@ module _ (s : State) (k m q p : ℕ) where
 -- ---- every accepted step
 module _ (live : ℕ → Bool) (s : State) (es : List Event) (w : Whole (with-history s es))
     (v : Live live s) where
-  multicast-live : (p groups : ℕ) → s count < 64 → Live live (multicast s p groups)
+  multicast-live : (p groups order-no : ℕ) → s count < 64 → Live live (multicast s p groups order-no)
   unfolding multicast posted numbered stamped raised put with-tables
-  multicast-live p groups hc = record {
-    net = multicast-net s es p groups (w .meaning) (w .sound) hc (v .net);
+  multicast-live p groups order-no hc = record {
+    net = multicast-net s es p groups order-no (w .meaning) (w .sound) hc (v .net);
     idle = λ r hr x hx h.
         let hx′ =
         ltb-true x (s count)
@@ -86,10 +86,10 @@ module _ (live : ℕ → Bool) (s : State) (es : List Event) (w : Whole (with-hi
         v .trusted r x q f hq lq (rw (o .old-mask x hx) at a);
   }
     where
-      o : OneMore (messages s) (knowledge es) p groups (messages (multicast s p groups))
-      o = one-more s es p groups (w .meaning)
+      o : OneMore (messages s) (knowledge es) p groups (messages (multicast s p groups order-no))
+      o = one-more s es p groups order-no (w .meaning)
 
-      pending : (r x : ℕ) → x < s count → Pending (place s r) x → Pending (place (multicast s p groups) r) x
+      pending : (r x : ℕ) → x < s count → Pending (place s r) x → Pending (place (multicast s p groups order-no) r) x
       pending r x hx (delivered f) = delivered f
       pending r x hx (not-in-turn d) =
           not-in-turn
@@ -147,7 +147,7 @@ module _ (live : ℕ → Bool) (s : State) (es : List Event) (w : Whole (with-hi
   pub live-step : (x : Step) → accepted s x ≡ true → InForce live s → InForce live (step s x)
       → Live live (step s x)
   unfolding step trust-set crash leave put
-  live-step (multicasts p groups) e f f′ = multicast-live p groups (accepted-multicast s p groups e .room)
+  live-step (multicasts p groups order-no) e f f′ = multicast-live p groups order-no (accepted-multicast s p groups order-no e .room)
   live-step (arrives k m q p) e f f′ =
       let a = accepted-arrival s k m q p e in
       arrival-live k m q p e (λ x hx lx. f p x (a .letter .to) hx (a .live) lx)

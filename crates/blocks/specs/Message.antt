@@ -25,8 +25,7 @@ unfoldable pub messages-fine : State → ℕ → Bool
 messages-fine s k = every k (λ m. fine-run s (6867 + m * 187) 187)
 
 module _ (w : List ℕ) (m n messages : ℕ) (limits addressees : List ℕ)
-    (h : Ready w n messages limits addressees) (l : m < messages)
-    (small : (i : ℕ) → getD w i 0 < 2 ^ 16) where
+    (h : Ready w n messages limits addressees) (l : m < messages) where
   there : m < view w count
   there = let e = h .sized .count-is in omega arith
 
@@ -43,17 +42,11 @@ module _ (w : List ℕ) (m n messages : ℕ) (limits addressees : List ℕ)
       (number m)
       (λ g q a b. (low, a, b)) (λ g q. refl) (λ g a. (low, a)) (λ g. omega arith) (λ g q. refl) (λ g. refl)
 
-  -- the letters of kind k, at the place a
-  kind-law : (k a origins : ℕ) → k < 3 → a ≡ 6867 + m * 187 + 138 + k * 16
-      → ((q : ℕ) → q < 16 → bit origins q ≡ sends (view w) m k q)
-      → letters-at w a origins (addressees-of (view w) m) ≡ fine-run (view w) a 16
-  kind-law k a origins hk e from =
-      ap (λ (x : ℕ). letters-at w x origins (addressees-of (view w) m)) e
-      ∙ letters-law w m k origins low hk there from small ∙ ap (λ (x : ℕ). fine-run (view w) x 16) (sym e)
-
-  order-law : eqb (getD w (6867 + m * 187 + 186) 0) 0 ≡ fine-run (view w) (6867 + m * 187 + 186) 1
+  -- any order number may stand
+  order-law : true ≡ fine-run (view w) (6867 + m * 187 + 186) 1
   unfolding fine fit
-  order-law = run-one (view w) (order m) low
+  order-law =
+      ap (λ (b : Bool). word b (view w (order m)) true) (sym is-there) ∙ run-one (view w) (order m) low
 
   head-law : fine-run (view w) (6867 + m * 187) 2 ≡ true
   head-law =
@@ -62,30 +55,40 @@ module _ (w : List ℕ) (m n messages : ℕ) (limits addressees : List ℕ)
       (sym (run-one (view w) (mask m) low) ∙ h .headed .fine-masks m there)
 
   -- ---- the letters of the three kinds, in flight or none
-  pub flight-law : (v to : ℕ) → v ≡ with 0 (view w (sender m)) → to ≡ getD addressees m 0
-      → ((letters-at w (6867 + m * 187 + 138) v to && letters-at w (6867 + m * 187 + 138 + 16) to to)
-      && letters-at w (6867 + m * 187 + 138 + 32) to to) ≡ fine-run (view w) (6867 + m * 187 + 138) 48
-  flight-law v to ev et =
-      ap₂ both
-      (ap₂ both
-      (ap (letters-at w a v) is
-      ∙ kind-law 0 a v (omega arith) (omega arith) (λ q _. sender-origin (view w) m q v ev))
-      (others 1 (a + 16) (omega arith) (omega arith) (omega arith))
-      ∙ run-cut (view w) a 16 16 (a + 16) 32 refl refl)
-      (others 2 (a + 32) (omega arith) (omega arith) (omega arith))
-      ∙ run-cut (view w) a 32 16 (a + 32) 48 refl refl
-    where
-      a : ℕ
-      a = 6867 + m * 187 + 138
+  module _ (small : (i : ℕ) → getD w i 0 < 2 ^ 16) where
+    -- the letters of kind k, at the place a
+    kind-law : (k a origins : ℕ) → k < 3 → a ≡ 6867 + m * 187 + 138 + k * 16
+        → ((q : ℕ) → q < 16 → bit origins q ≡ sends (view w) m k q)
+        → letters-at w a origins (addressees-of (view w) m) ≡ fine-run (view w) a 16
+    kind-law k a origins hk e from =
+        ap (λ (x : ℕ). letters-at w x origins (addressees-of (view w) m)) e
+        ∙ letters-law w m k origins low hk there from small ∙ ap (λ (x : ℕ). fine-run (view w) x 16) (sym e)
 
-      is : to ≡ addressees-of (view w) m
-      is = et ∙ h .to .at m low
+    -- all three
+    pub flight-law : (v to : ℕ) → v ≡ with 0 (view w (sender m)) → to ≡ getD addressees m 0
+        → ((letters-at w (6867 + m * 187 + 138) v to && letters-at w (6867 + m * 187 + 138 + 16) to to)
+        && letters-at w (6867 + m * 187 + 138 + 32) to to) ≡ fine-run (view w) (6867 + m * 187 + 138) 48
+    flight-law v to ev et =
+        ap₂ both
+        (ap₂ both
+        (ap (letters-at w a v) is
+        ∙ kind-law 0 a v (omega arith) (omega arith) (λ q _. sender-origin (view w) m q v ev))
+        (others 1 (a + 16) (omega arith) (omega arith) (omega arith))
+        ∙ run-cut (view w) a 16 16 (a + 16) 32 refl refl)
+        (others 2 (a + 32) (omega arith) (omega arith) (omega arith))
+        ∙ run-cut (view w) a 32 16 (a + 32) 48 refl refl
+      where
+        a : ℕ
+        a = 6867 + m * 187 + 138
 
-      others : (k b : ℕ) → 0 < k → k < 3 → b ≡ 6867 + m * 187 + 138 + k * 16
-          → letters-at w b to to ≡ fine-run (view w) b 16
-      others k b pos hk e =
-          ap (λ (x : ℕ). letters-at w b x x) is
-          ∙ kind-law k b (addressees-of (view w) m) hk e (λ q _. addressee-origin (view w) m k q pos is-there)
+        is : to ≡ addressees-of (view w) m
+        is = et ∙ h .to .at m low
+
+        others : (k b : ℕ) → 0 < k → k < 3 → b ≡ 6867 + m * 187 + 138 + k * 16
+            → letters-at w b to to ≡ fine-run (view w) b 16
+        others k b pos hk e =
+            ap (λ (x : ℕ). letters-at w b x x) is
+            ∙ kind-law k b (addressees-of (view w) m) hk e (λ q _. addressee-origin (view w) m k q pos is-there)
 
   pub quiet-law : zeros-at w (6867 + m * 187 + 138) 48 ≡ true → true
       ≡ fine-run (view w) (6867 + m * 187 + 138) 48
@@ -107,14 +110,19 @@ module _ (w : List ℕ) (m n messages : ℕ) (limits addressees : List ℕ)
       silent false x q = eq-eqb x 0 q
 
   pub message-law :
-      ((within-at w (6867 + m * 187 + 2) limits 0 136 && fine-run (view w) (6867 + m * 187 + 138) 48)
-      && eqb (getD w (6867 + m * 187 + 186) 0) 0) ≡ fine-run (view w) (6867 + m * 187) 187
+      (within-at w (6867 + m * 187 + 2) limits 0 136 && fine-run (view w) (6867 + m * 187 + 138) 48)
+      ≡ fine-run (view w) (6867 + m * 187) 187
   message-law =
-      ap₂ both
-      (ap₂ both stamps-law refl ∙ run-cut (view w) (b + 2) 136 48 (b + 138) 184 (omega arith) refl)
-      order-law ∙ run-cut (view w) (b + 2) 184 1 (b + 186) 185 (omega arith) refl
+      ap₂ both stamps-law refl ∙ run-cut (view w) (b + 2) 136 48 (b + 138) 184 (omega arith) refl
+      ∙ alone (fine-run (view w) (b + 2) 184)
+      ∙ ap (both (fine-run (view w) (b + 2) 184)) order-law
+      ∙ run-cut (view w) (b + 2) 184 1 (b + 186) 185 (omega arith) refl
       ∙ ap (λ (x : Bool). x && fine-run (view w) (b + 2) 185) (sym head-law)
       ∙ run-cut (view w) b 2 185 (b + 2) 187 refl refl
     where
       b : ℕ
       b = 6867 + m * 187
+
+      alone : (x : Bool) → x ≡ both x true
+      alone true = refl
+      alone false = refl

@@ -103,7 +103,7 @@ fn flight(w: &[u16], m: usize, n: usize, count: usize, limits: &[u16], addressee
         & regions::letters(w, at + cells::FLIGHT + 32, to, to)
 }
 
-// Whether the block of message m may stand.
+// Whether the block of message m may stand; any order number may.
 fn message(w: &[u16], m: usize, n: usize, count: usize, limits: &[u16], addressees: &[u16]) -> bool
     requires { ⌜ Ready (now w) n count (now limits) (now addressees) ⌝ }
     requires { ⌜ m < count ⌝ }
@@ -112,7 +112,6 @@ fn message(w: &[u16], m: usize, n: usize, count: usize, limits: &[u16], addresse
     let at = cells::MESSAGES + m * cells::MESSAGE;
     ranges::within(w, at + cells::STAMPS, limits, 0, 136)
         & flight(w, m, n, count, limits, addressees)
-        & (w[at + 186] == 0)
 }
 
 // Whether the blocks of all messages may stand.

@@ -81,7 +81,7 @@ module _ {s t : State} (a : Agree s t) where
   -- so the same steps are refused, with the same numbers
   pub refusal-agree : (x : Step) → refusal s x ≡ refusal t x
   unfolding refusal
-  refusal-agree (multicasts p groups) =
+  refusal-agree (multicasts p groups o) =
       needs-same 5 (size-test p) (λ l. needs-same 6 (mask-agree groups) (λ _.
       needs-same 9 (up-agree p (ltb-true p (s size) l)) (λ _.
       needs-same 10 (ap (λ (n : ℕ). ltb n 64) (same a count tt)) (λ _. refl))))
@@ -106,9 +106,9 @@ module _ {s t : State} (a : Agree s t) where
   -- ---- an accepted step
   pub step-agree : (x : Step) → accepted s x ≡ true → Agree (step s x) (step t x)
   unfolding step
-  step-agree (multicasts p groups) e =
-      let y = accepted-multicast s p groups e in
-      multicast-agree p groups (process-low a p (y .process)) (y .room) a
+  step-agree (multicasts p groups o) e =
+      let y = accepted-multicast s p groups o e in
+      multicast-agree p groups o (process-low a p (y .process)) (y .room) a
   step-agree (arrives k m q p) e =
       let y = accepted-arrival s k m q p e .letter in
       arrival-agree k m q p (y .kind) (message-low a m (y .message)) (process-low a q (y .from))

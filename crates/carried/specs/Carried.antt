@@ -42,7 +42,7 @@ module _ {s s′ t t′ : State} (a : Agree s s′) (b : Agree t t′) where
 
 -- the event of a multicast
 casted-agree : {s t : State} (x : Step) (es : List Event) → Agree s t → casted x s es ≡ casted x t es
-casted-agree (multicasts p gs) es a = ap (λ (m : ℕ). sent p m ∷ es) (same a count tt)
+casted-agree (multicasts p gs o) es a = ap (λ (m : ℕ). sent p m ∷ es) (same a count tt)
 casted-agree (arrives k m q p) es a = refl
 casted-agree (loses k m q p) es a = refl
 casted-agree (trusts p set) es a = refl

@@ -382,25 +382,26 @@ stamped-agree p m hp a = tables-agree _ _ (record {
 }) a
 
 -- the message numbered
-numbered-agree : {s t : State} (p groups : ℕ) → p < 16 → s count < 64 → Agree s t
-    → Agree (numbered s p groups) (numbered t p groups)
+numbered-agree : {s t : State} (p groups o : ℕ) → p < 16 → s count < 64 → Agree s t
+    → Agree (numbered s p groups o) (numbered t p groups o)
 unfolding numbered
-numbered-agree {s} {t} p groups hp hc a =
+numbered-agree {s} {t} p groups o hp hc a =
     let e : s count ≡ t count = same a count tt in
     put-agree count count (s count + 1) (t count + 1) refl (ap (λ (x : ℕ). x + 1) e) (omega arith)
+    (put-agree (order (s count)) (order (t count)) o o (ap order e) refl tt
     (put-agree (mask (s count)) (mask (t count)) groups groups (ap mask e) refl tt
-    (put-agree (sender (s count)) (sender (t count)) p p (ap sender e) refl hp a))
+    (put-agree (sender (s count)) (sender (t count)) p p (ap sender e) refl hp a)))
 
 -- the whole of it
-pub multicast-agree : {s t : State} (p groups : ℕ) → p < 16 → s count < 64 → Agree s t
-    → Agree (multicast s p groups) (multicast t p groups)
+pub multicast-agree : {s t : State} (p groups o : ℕ) → p < 16 → s count < 64 → Agree s t
+    → Agree (multicast s p groups o) (multicast t p groups o)
 unfolding multicast posted stamped raised with-tables
-multicast-agree {s} {t} p groups hp hc a =
+multicast-agree {s} {t} p groups o hp hc a =
     subst
-    (λ (m : ℕ). Agree (multicast s p groups)
-    (posted (numbered (stamped (raised t p groups) p m) p groups) p m)) (same a count tt)
+    (λ (m : ℕ). Agree (multicast s p groups o)
+    (posted (numbered (stamped (raised t p groups) p m) p groups o) p m)) (same a count tt)
     (put-agree (flight (s count) 0 p) (flight (s count) 0 p) _ _ refl (all-agree b (s count) hc) tt b)
   where
-    b : Agree (numbered (stamped (raised s p groups) p (s count)) p groups)
-        (numbered (stamped (raised t p groups) p (s count)) p groups)
-    b = numbered-agree p groups hp hc (stamped-agree p (s count) hp (raised-agree p groups a))
+    b : Agree (numbered (stamped (raised s p groups) p (s count)) p groups o)
+        (numbered (stamped (raised t p groups) p (s count)) p groups o)
+    b = numbered-agree p groups o hp hc (stamped-agree p (s count) hp (raised-agree p groups a))

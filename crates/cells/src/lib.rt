@@ -56,6 +56,8 @@ pub const NUMBERS: usize = 130;
 
 pub const FLIGHT: usize = 138;
 
+pub const ORDER: usize = 186;
+
 // A word as a number of the machine's width.
 pub fn wide(x: u16) -> usize
     ensures { λ r. ⌜ r ≡ x ⌝ }

@@ -11,6 +11,8 @@ use Rattle.definitions.specs.declared.Outcome.{Outcome}
 use Rattle.definitions.specs.declared.Outcome.the-variants as outcome
 use Rattle.definitions.specs.declared.Amount.{Amount}
 use Rattle.definitions.specs.declared.Amount.the-variants as amount
+use Rattle.definitions.specs.declared.OrderNumber.{OrderNumber}
+use Rattle.definitions.specs.declared.OrderNumber.the-variants as order-number
 use Rattle.definitions.specs.declared.Settling.{Settling}
 use Rattle.definitions.specs.declared.Settling.the-variants as settling
 use Rattle.definitions.specs.declared.Replaying.{Replaying}
@@ -46,6 +48,11 @@ abbrev pub amount-reply : Amount → Reply ℕ
 amount-reply (amount.Is n) = gives n
 amount-reply (amount.Refused r) = refuses (refusal-number r)
 
+-- The order number of a message, or the refusal.
+abbrev pub order-number-reply : OrderNumber → Reply ℕ
+order-number-reply (order-number.Is n) = gives n
+order-number-reply (order-number.Refused r) = refuses (refusal-number r)
+
 -- Settle: the number of arrivals with done or stopped, or the refusal.
 abbrev pub settling-reply : Settling → Reply Ending
 settling-reply (settling.Done n) = gives (done n)
@@ -67,6 +74,6 @@ abbrev pub done-in : Ending → ℕ
 done-in (done n) = 1
 done-in (stopped n) = 0
 
--- The version of the engine, 9.0.0: a million times its first number, a thousand times its second, and its third.
+-- The version of the engine, 9.1.0: a million times its first number, a thousand times its second, and its third.
 abbrev pub version : ℕ
-version = 9000000
+version = 9001000

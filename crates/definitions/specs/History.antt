@@ -55,7 +55,7 @@ gained (suc p) s t es = grown p (s (causal-length p)) t (gained p s t es)
 
 -- The event of an accepted multicast.
 abbrev pub casted : Step → State → List Event → List Event
-casted (multicasts p groups) s es = sent p (s count) ∷ es
+casted (multicasts p groups o) s es = sent p (s count) ∷ es
 casted (arrives k m q p) s es = es
 casted (loses k m q p) s es = es
 casted (trusts p set) s es = es

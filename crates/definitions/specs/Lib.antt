@@ -13,3 +13,4 @@ pub mod Journal
 pub mod Replay
 pub mod Answers
 pub mod Demand
+pub mod OrderNumbers

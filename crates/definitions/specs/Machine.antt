@@ -130,7 +130,7 @@ fifo-one s p m =
 unfoldable pub cascade : State → ℕ → State
 cascade s p = loop (λ t. t count) (λ t. ready t p) (λ t. fifo-one t p) (s count - s (fifo-length p)) s
 
--- ---- 1 multicast by p to the groups of a mask
+-- ---- 1 multicast by p to the groups of a mask, with the order number o
 -- "For each group g in the mask p raises C[g][p] and b[g] by 1."
 unfoldable pub raised : State → ℕ → ℕ → State
 raised s p groups = with-tables s (record {
@@ -149,16 +149,18 @@ stamped s p m = with-tables s (record {
   numbers = λ x g. pick (eqb m x) (s (sequence p g)) (s (number x g));
 })
 
--- "numbered from 0 in order; the count is the number so far": message number count has this sender and mask.
-unfoldable pub numbered : State → ℕ → ℕ → State
-numbered s p groups = put (put (put s (sender (s count)) p) (mask (s count)) groups) count (s count + 1)
+-- "numbered from 0 in order; the count is the number so far": message number count has this sender and mask, and
+-- the order number o: "The message's record in the world keeps it" (document 02, card 1).
+unfoldable pub numbered : State → ℕ → ℕ → ℕ → State
+numbered s p groups o =
+    let m = s count in put (put (put (put s (sender m) p) (mask m) groups) (order m) o) count (m + 1)
 
 -- "First letters go in flight to all addressees, down ones too."
 unfoldable pub posted : State → ℕ → ℕ → State
 posted s p m = put s (flight m 0 p) (addressees s m)
 
-unfoldable pub multicast : State → ℕ → ℕ → State
-multicast s p groups = posted (numbered (stamped (raised s p groups) p (s count)) p groups) p (s count)
+unfoldable pub multicast : State → ℕ → ℕ → ℕ → State
+multicast s p groups o = posted (numbered (stamped (raised s p groups) p (s count)) p groups o) p (s count)
 
 -- ---- 2 arrival of the letter of kind k for m from q to p
 -- "The letter leaves flight."

@@ -67,9 +67,10 @@ fit s (causal p i) x =
     (item (s (causal-length p)) (λ m. not (outside-fifo s p m)) (λ j. s (causal p j)) i x)
 -- "next[q], for q below n, is 1 plus the number of q's messages in that FIFO log"
 fit s (next p q) x = word (is-process s p && is-process s q) x (eqb x (1 + logged-of s p q))
+-- "Soundness allows any order number." (document 02, card 1)
+fit s (order m) x = word (is-message s m) x true
 -- The other words are unused.
 fit s rule x = eqb x 0
-fit s (order m) x = eqb x 0
 fit s (unused i) x = eqb x 0
 
 unfoldable pub fine : State → Cell → Bool

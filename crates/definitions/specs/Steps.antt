@@ -10,10 +10,10 @@ use Rattle.definitions.specs.World.{size, count, up, flight, State, is-p
 use Rattle.definitions.specs.Machine.{multicast, leave, arrival, trust-set, crash}
 
 -- ---- "A step is 8 bytes: kind, operands, zeros."
--- multicast: process, group mask; arrival and loss: letter kind, message, from, to; trust: process, mask;
+-- multicast: process, group mask, order number; arrival and loss: letter kind, message, from, to; trust: process, mask;
 -- crash: process
 pub data Step : Type 0 where
-  multicasts : ℕ → ℕ → Step
+  multicasts : ℕ → ℕ → ℕ → Step
   arrives : ℕ → ℕ → ℕ → ℕ → Step
   loses : ℕ → ℕ → ℕ → ℕ → Step
   trusts : ℕ → ℕ → Step
@@ -25,11 +25,13 @@ abbrev pub zeros-from : List ℕ → ℕ → Bool
 zeros-from bytes i = every 8 (λ j. ltb j i || eqb (byte bytes j) 0)
 
 -- "not 8 bytes, kind outside 1 to 5, letter kind above 2, unused byte not zero" is malformed. A trust mask has
--- 16 bits, "low byte first".
+-- 16 bits, "low byte first". "A multicast step carries a 16-bit order number in bytes 3 and 4, low byte first, no
+-- longer unused" (document 02, card 1).
 unfoldable pub read : List ℕ → Step
 read bytes =
     pick (not (eqb (length bytes) 8)) malformed
-    (pick (eqb (byte bytes 0) 1 && zeros-from bytes 3) (multicasts (byte bytes 1) (byte bytes 2))
+    (pick (eqb (byte bytes 0) 1 && zeros-from bytes 5)
+    (multicasts (byte bytes 1) (byte bytes 2) (low-first bytes 3))
     (pick (eqb (byte bytes 0) 2 && ltb (byte bytes 1) 3 && zeros-from bytes 5)
     (arrives (byte bytes 1) (byte bytes 2) (byte bytes 3) (byte bytes 4))
     (pick (eqb (byte bytes 0) 3 && ltb (byte bytes 1) 3 && zeros-from bytes 5)
@@ -58,7 +60,7 @@ good-trust s set = ltb set (2 ^ s size)
 -- trust mask naming an absent process; 9 the process of a multicast, trust or crash step, or the receiver
 -- of an arrival, is down; 10 count is 64; 11 letter not in flight; 12 loss with both ends up
 unfoldable pub refusal : State → Step → ℕ
-refusal s (multicasts p groups) =
+refusal s (multicasts p groups o) =
     needs 5 (is-process s p)
     (needs 6 (good-mask s groups) (needs 9 (is-up s p) (needs 10 (ltb (s count) 64) 0)))
 refusal s (arrives k m q p) =
@@ -78,7 +80,7 @@ accepted s x = eqb (refusal s x) 0
 
 -- ---- what an accepted step does
 unfoldable pub step : State → Step → State
-step s (multicasts p groups) = multicast s p groups
+step s (multicasts p groups o) = multicast s p groups o
 step s (arrives k m q p) = arrival s k m q p
 step s (loses k m q p) = leave s k m q p
 step s (trusts p set) = trust-set s p set

@@ -8,7 +8,7 @@ use Prim.Native.Nat.{ℕ}
 use lib.Dec.{eqb}
 use lib.ListN.{length, take, drop}
 use Rattle.definitions.specs.General.{needs, unless-refused, Reply, reply}
-use Rattle.definitions.specs.World.{fifo-length, causal-length, fifo, causal, addr, State, encode, view, is-process}
+use Rattle.definitions.specs.World.{fifo-length, causal-length, fifo, causal, order, addr, State, encode, view, is-process, is-message}
 use Rattle.definitions.specs.Sound.{sound}
 use Rattle.definitions.specs.Setup.{setup-refusal, made}
 use Rattle.definitions.specs.Machine.{arrival}
@@ -73,6 +73,14 @@ log-words w p log =
 -- "a second call gives its length or the refusal"
 unfoldable pub length-reply : List ℕ → ℕ → Bool → Reply ℕ
 length-reply w p log = reply (log-refusal w p) (log-length (view w) p log)
+
+-- ---- the order number of a message (document 02, card 1): "with refusals 1, 2 and 7 as in document 01"
+unfoldable pub order-refusal : List ℕ → ℕ → ℕ
+order-refusal w m = needs-world w (needs 7 (is-message (view w) m) 0)
+
+-- "a call returns the order number of a message"
+unfoldable pub order-reply : List ℕ → ℕ → Reply ℕ
+order-reply w m = reply (order-refusal w m) (view w (order m))
 
 -- ---- a list of items on lent words (History): a step or a settle is refused where these are no sound world
 abbrev pub on-words : Engine (List ℕ)

@@ -24,8 +24,8 @@ pub data Cell : Type 0 where
   sender mask : ℕ → Cell
   stamp : ℕ → ℕ → ℕ → Cell
   number : ℕ → ℕ → Cell
-  -- Of message m: the receivers of its letters in flight of kind k and origin q; an unused word, kept for a
-  -- later order number.
+  -- Of message m: the receivers of its letters in flight of kind k and origin q; its order number (document
+  -- 02, card 1: "Number 0 means no order").
   flight : ℕ → ℕ → ℕ → Cell
   order : ℕ → Cell
   -- The words that nothing uses.

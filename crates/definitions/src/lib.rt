@@ -33,6 +33,12 @@ pub enum Amount {
     Refused(Refusal),
 }
 
+// The answer of a call that asks for the order number of a message.
+pub enum OrderNumber {
+    Is(u16),
+    Refused(Refusal),
+}
+
 // The answer of settle: all letters that can move have arrived, or the budget is used up and one remains; each with
 // the number of arrivals made.
 pub enum Settling {

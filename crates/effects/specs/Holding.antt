@@ -91,7 +91,7 @@ pub data Lands (s : State) (r m : ℕ) : Type 0 where
 pub step-held : (s : State) (x : Step) → accepted s x ≡ true → (r m : ℕ) → Held (step s x) r m
     → Held s r m ⊎ Lands s r m
 unfolding step multicast posted numbered stamped raised with-tables arrival trust-set leave crash put
-step-held s (multicasts p groups) e r m h = inl h
+step-held s (multicasts p groups o) e r m h = inl h
 step-held s (arrives k x q p) e r m h =
     received-held s k x q p (λ u y. Held s u y ⊎ Lands s u y) (λ _ _ a. inl a)
     (λ _. inr (lands k q (accepted-arrival s k x q p e .letter))) r m
@@ -119,7 +119,7 @@ lasts s t e = (
 
 pub step-lasting : (s : State) (x : Step) → Lasting s (step s x)
 unfolding step multicast posted numbered stamped raised with-tables trust-set leave crash put
-step-lasting s (multicasts p groups) = (
+step-lasting s (multicasts p groups o) = (
   refl,
   (λ _. refl),
   λ m l. put-other s (mask (s count)) (mask m) groups (λ e. let z : s count ≡ m = cc in omega arith),

@@ -143,24 +143,24 @@ cascade-once s p =
     (s count - s (fifo-length p)) s (once-self s)
 
 -- a multicast sends the first letters of a new message
-pub multicast-once : (s : State) (p groups : ℕ) → Once s (multicast s p groups)
+pub multicast-once : (s : State) (p groups o : ℕ) → Once s (multicast s p groups o)
 unfolding multicast post numbered stamped raised put with-tables
-multicast-once s p groups = record {
+multicast-once s p groups o = record {
   grows = omega arith;
   held-on = λ x r _ h. h;
   near-on = λ x r hx h. omega (arith, h, number-is x r hx, ap (λ (q : ℕ). s (next r q)) (sender-is x hx));
   new-letter = λ k x q u.
-      put-letter s (s count) 0 p (addressees (multicast s p groups) (s count))
+      put-letter s (s count) 0 p (addressees (multicast s p groups o) (s count))
       (λ x k q v. bit v u ≡ true
-      → Fly s x k q u ⊎ ((¬ Spent s k x q) × Spent (multicast s p groups) k x q))
+      → Fly s x k q u ⊎ ((¬ Spent s k x q) × Spent (multicast s p groups o) k x q))
       (λ _. inr ((λ z. absurd (omega (arith, z .0))), (omega arith, tt))) (λ _ _ _ f. inl f) x k q;
 }
   where
     number-is : (x r : ℕ) → x < s count
-        → multicast s p groups (number x (s (group r))) ≡ s (number x (s (group r)))
+        → multicast s p groups o (number x (s (group r))) ≡ s (number x (s (group r)))
     number-is x r hx = pick-no _ (s (number x (s (group r)))) (ne-eqb (s count) x (omega arith))
 
-    sender-is : (x : ℕ) → x < s count → multicast s p groups (sender x) ≡ s (sender x)
+    sender-is : (x : ℕ) → x < s count → multicast s p groups o (sender x) ≡ s (sender x)
     sender-is x hx =
         put-other s (sender (s count)) (sender x) p (λ e. let z : s count ≡ x = cc in omega arith)
 
@@ -180,7 +180,7 @@ arrived-once s k m q p l =
 -- ---- every step
 pub step-once : (s : State) (x : Step) → (accepted s x ≡ true) → Once s (step s x)
 unfolding step trust-set crash put
-step-once s (multicasts p groups) e = multicast-once s p groups
+step-once s (multicasts p groups o) e = multicast-once s p groups o
 step-once s (arrives k m q p) e =
     once-then (leave-once s k m q p)
     (arrived-once s k m q p (accepted-arrival s k m q p e .letter .message))

@@ -1,12 +1,13 @@
 // The functions that the archive exports. Each but the version returns 0, or the number of the refusal of document 01;
 // what else it answers goes out through a lent number. A refusal leaves everything that was lent as it was.
 use definitions::Amount;
+use definitions::OrderNumber;
 use definitions::Replaying;
 use definitions::Settling;
 ghost use mathlib.Core.Path.{_≡_};
 ghost use lib.ListN.{length};
 ghost use Rattle.definitions.specs.General.{refusal-in, value-in};
-ghost use Rattle.definitions.specs.Words.{making-refusal, made-words, step-refusal, stepped-words, settle-reply, settled-words, log-start, length-reply};
+ghost use Rattle.definitions.specs.Words.{making-refusal, made-words, step-refusal, stepped-words, settle-reply, settled-words, log-start, length-reply, order-reply};
 ghost use Rattle.definitions.specs.Journal.{needed-reply, write-refusal, written, count-reply, read-refusal, read-out};
 ghost use Rattle.definitions.specs.Replay.{Counts, replay-reply, replayed-words};
 ghost use Rattle.definitions.specs.Answers.{arrivals-in, done-in, version};
@@ -105,6 +106,21 @@ pub extern "C" fn wt_world_log(
             0
         }
         Amount::Refused(r) => answers::number(r),
+    }
+}
+
+// The order number of a message: 0, 1, 2 or 7.
+#[no_mangle]
+pub extern "C" fn wt_order(w: &[u16], m: u32, number: &mut u32) -> u32
+    ensures answer { λ r. ⌜ r ≡ refusal-in (order-reply (now (w .entry)) m) ⌝ }
+    ensures value { λ _. ⌜ now (number .exit) ≡ value-in (λ n. n) (order-reply (now (w .entry)) m) (now (number .entry)) ⌝ }
+{
+    match reading::order(w, m as usize) {
+        OrderNumber::Is(n) => {
+            *number = n as u32;
+            0
+        }
+        OrderNumber::Refused(r) => answers::number(r),
     }
 }
 

@@ -14,7 +14,7 @@ use Rattle.given.specs.declared.Given.the-variants as given
 
 -- The step that it means.
 abbrev pub step-of : Given → Step
-step-of (given.Multicast p groups) = multicasts p groups
+step-of (given.Multicast p groups o) = multicasts p groups o
 step-of (given.Arrival k m q p) = arrives k m q p
 step-of (given.Loss k m q p) = loses k m q p
 step-of (given.Trust p set) = trusts p set
@@ -49,7 +49,7 @@ zeros-fail bytes i j l h n =
 -- ---- the bytes by their kind
 abbrev pub read-as : ℕ → List ℕ → Step
 read-as k bytes =
-    pick (eqb k 1 && zeros-from bytes 3) (multicasts (byte bytes 1) (byte bytes 2))
+    pick (eqb k 1 && zeros-from bytes 5) (multicasts (byte bytes 1) (byte bytes 2) (low-first bytes 3))
     (pick (eqb k 2 && ltb (byte bytes 1) 3 && zeros-from bytes 5)
     (arrives (byte bytes 1) (byte bytes 2) (byte bytes 3) (byte bytes 4))
     (pick (eqb k 3 && ltb (byte bytes 1) 3 && zeros-from bytes 5)
@@ -109,3 +109,8 @@ letter-as false bytes = refl
 pub same-letter : (lost : Bool) {k m q p x y z u : ℕ} → k ≡ x → m ≡ y → q ≡ z → p ≡ u
     → letter-step lost k m q p ≡ letter-step lost x y z u
 same-letter lost a b c d = cc
+
+-- ---- a multicast
+pub same-multicast : {p groups o x y z : ℕ} → p ≡ x → groups ≡ y → o ≡ z
+    → multicasts p groups o ≡ multicasts x y z
+same-multicast a b c = cc

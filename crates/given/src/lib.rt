@@ -1,14 +1,15 @@
 // A step as it is given, 8 bytes, read: kind, operands, zeros.
 ghost use mathlib.Core.Path.{_≡_};
-ghost use Prim.Native.Nat.{_≤_, _<_};
+ghost use Prim.Native.Nat.{_+_, _≤_, _<_};
 ghost use lib.ListN.{length, getD};
-ghost use Rattle.definitions.specs.General.{pick};
+ghost use Rattle.definitions.specs.General.{pick, low-first};
 ghost use Rattle.definitions.specs.Steps.{zeros-from, read};
 ghost use Rattle.given.specs.Given.{step-of, letter-good};
 
-// What the bytes ask for. A letter is its kind, its message, from whom and to whom.
+// What the bytes ask for. A multicast is its process, group mask and order number; a letter is its kind, its message,
+// from whom and to whom.
 pub enum Given {
-    Multicast(usize, u16),
+    Multicast(usize, u16, u16),
     Arrival(usize, usize, usize, usize),
     Loss(usize, usize, usize, usize),
     Trust(usize, u16),
@@ -29,6 +30,14 @@ fn byte(bytes: &[u8], i: usize) -> usize
     ensures { λ r. ⌜ (r ≡ getD (now (bytes .entry)) i 0) × (r < 256) ⌝ }
 {
     wide(bytes[i])
+}
+
+// The 16 bits at byte i, low byte first.
+fn low_first(bytes: &[u8], i: usize) -> u16
+    requires { ⌜ i + 1 < length (now bytes) ⌝ }
+    ensures { λ r. ⌜ r ≡ low-first (now (bytes .entry)) i ⌝ }
+{
+    (byte(bytes, i) + byte(bytes, i + 1) * 256) as u16
 }
 
 // Whether the bytes from i on are zero.
@@ -62,8 +71,8 @@ fn multicast(bytes: &[u8]) -> Given
     requires { ⌜ (length (now bytes) ≡ 8) × (getD (now bytes) 0 0 ≡ 1) ⌝ }
     ensures { λ r. ⌜ step-of r ≡ read (now (bytes .entry)) ⌝ }
 {
-    if zeros(bytes, 3) {
-        return Given::Multicast(byte(bytes, 1), byte(bytes, 2) as u16);
+    if zeros(bytes, 5) {
+        return Given::Multicast(byte(bytes, 1), byte(bytes, 2) as u16, low_first(bytes, 3));
     }
     Given::Malformed
 }
@@ -92,10 +101,7 @@ fn trust(bytes: &[u8]) -> Given
     ensures { λ r. ⌜ step-of r ≡ read (now (bytes .entry)) ⌝ }
 {
     if zeros(bytes, 4) {
-        return Given::Trust(
-            byte(bytes, 1),
-            (byte(bytes, 2) + byte(bytes, 3) * 256) as u16,
-        );
+        return Given::Trust(byte(bytes, 1), low_first(bytes, 2));
     }
     Given::Malformed
 }

@@ -87,7 +87,7 @@ module _ (n : ℕ) (groups : ℕ → ℕ) (low : 1 ≤ n) (high : n ≤ 16) (few
   fresh-world-sound (stamp m g q) k = at-most-zero (is-message s m && has-group s g && is-process s q)
   fresh-world-sound (number m g) k = at-most-zero (is-message s m && has-group s g)
   fresh-world-sound (flight m i q) k = no-message (sends s m i q) m _
-  fresh-world-sound (order m) k = refl
+  fresh-world-sound (order m) k = rw (le-ltb m 0 (omega arith))
   fresh-world-sound (unused a) k = refl
 
 -- ---- an accepted setup record

@@ -38,9 +38,9 @@ fresh-sound bytes e = made-sound bytes (setup-good bytes e)
 -- a step that is accepted
 pub step-sound : (s : State) (x : Step) → accepted s x ≡ true → Sound s → Sound (step s x)
 unfolding step
-step-sound s (multicasts p groups) e h =
-    let a = accepted-multicast s p groups e in
-    multicast-sound s p groups h (a .process) (a .mask) (a .room)
+step-sound s (multicasts p groups o) e h =
+    let a = accepted-multicast s p groups o e in
+    multicast-sound s p groups o h (a .process) (a .mask) (a .room)
 step-sound s (arrives k m q p) e h =
     let a = accepted-arrival s k m q p e .letter in
     arrival-sound s k m q p (a .kind) (a .message) (a .from) (a .to) (a .flies) h

@@ -24,14 +24,14 @@ use Rattle.keeps.specs.Forms.{word-to, word-zero, word-wider, word-raise
 use Rattle.keeps.specs.Logs.{item-weaker}
 use Rattle.keeps.specs.Changes.{send-sound}
 
-module _ (s : State) (p groups : ℕ) (h : Sound s) (hp : p < s size) (good : good-mask s groups ≡ true)
+module _ (s : State) (p groups o : ℕ) (h : Sound s) (hp : p < s size) (good : good-mask s groups ≡ true)
     (room : s count < 64) where
   -- the message's number, and the state with the message but for its letters
   abbrev new : ℕ
   new = s count
 
   abbrev sent : State
-  sent = numbered (stamped (raised s p groups) p (s count)) p groups
+  sent = numbered (stamped (raised s p groups) p (s count)) p groups o
 
   -- p is a process
   here : is-process s p ≡ true
@@ -88,6 +88,11 @@ module _ (s : State) (p groups : ℕ) (h : Sound s) (hp : p < s size) (good : go
   mask-old : (j : ℕ) → new ≢ j → sent (mask j) ≡ s (mask j)
   unfolding numbered stamped raised with-tables put
   mask-old j n = put-other s (mask new) (mask j) groups (λ e. n cc)
+
+  -- and so does an order number
+  order-old : (j : ℕ) → new ≢ j → sent (order j) ≡ s (order j)
+  unfolding numbered stamped raised with-tables put
+  order-old j n = put-other s (order new) (order j) o (λ e. n cc)
 
   -- so older messages have the addressees that they had
   addressee-old : (j : ℕ) → new ≢ j → addressee sent j ≡ addressee s j
@@ -240,11 +245,14 @@ module _ (s : State) (p groups : ℕ) (h : Sound s) (hp : p < s size) (good : go
   sent-sound (flight j i y) k =
       kept-fits (only 16) only-empty (λ x. sends s x i y) (λ x. sends sent x i y)
       (λ x. s (flight x i y)) (λ x n. sends-old x i y n) (λ x l. h (flight x i y) (l, k .1, k .2)) j (k .0)
-  sent-sound (order j) k = h (order j) k
+  sent-sound (order j) k =
+      by-message (λ i. word (is-message sent i) (sent (order i)) true ≡ true) j
+      (word-is (ltb new (new + 1)) (sent (order new)) _ (λ _. refl) (λ u. clash message-new u))
+      (λ n. ap₂ (λ (b : Bool) (v : ℕ). word b v true) (message-old j n) (order-old j n) ∙ h (order j) k)
   sent-sound (unused a) k = h (unused a) k
 
   -- the multicast: the message with its first letters
-  pub multicast-sound : Sound (multicast s p groups)
+  pub multicast-sound : Sound (multicast s p groups o)
   unfolding multicast posted numbered stamped raised with-tables put sends
   multicast-sound =
       send-sound sent 0 new p (eq-eqb p (sent (sender new)) (sym (put-same s (sender new) (sender new) p refl)))

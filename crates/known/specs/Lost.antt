@@ -107,7 +107,7 @@ lost-step r x e o = record {
     unsent (suc (suc k)) q hq n y = unheld q hq (y .1 .0)
 
     cast : (x : Step) → knowledge (casted x (r .now) (r .seen)) .before 2 0 ≡ true
-    cast (multicasts p groups) =
+    cast (multicasts p groups order-no) =
         before-old (knowledge (r .seen)) p (r .now count) 2 0 (omega (arith, o .many)) ∙ o .precedes
     cast (arrives k m q p) = o .precedes
     cast (loses k m q p) = o .precedes

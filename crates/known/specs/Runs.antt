@@ -73,6 +73,9 @@ all-pass (r ∷ rs) = row-passes r && all-pass rs
 abbrev pub multicasting : ℕ → ℕ → List ℕ
 multicasting p groups = 1 ∷ p ∷ groups ∷ 0 ∷ 0 ∷ 0 ∷ 0 ∷ 0 ∷ []
 
+abbrev ordering : ℕ → ℕ → ℕ → ℕ → List ℕ
+ordering p groups low high = 1 ∷ p ∷ groups ∷ low ∷ high ∷ 0 ∷ 0 ∷ 0 ∷ []
+
 abbrev pub arriving : ℕ → ℕ → ℕ → ℕ → List ℕ
 arriving k m q p = 2 ∷ k ∷ m ∷ q ∷ p ∷ 0 ∷ 0 ∷ 0 ∷ []
 
@@ -226,19 +229,22 @@ abbrev refusals : Row
 refusals = plays pair 0
     (takes [] 4
     ∷ takes (6 ∷ 0 ∷ 0 ∷ 0 ∷ 0 ∷ 0 ∷ 0 ∷ 0 ∷ []) 4
-    ∷ takes (1 ∷ 0 ∷ 1 ∷ 1 ∷ 0 ∷ 0 ∷ 0 ∷ 0 ∷ []) 4
+    ∷ takes (1 ∷ 0 ∷ 1 ∷ 0 ∷ 0 ∷ 1 ∷ 0 ∷ 0 ∷ []) 4
     ∷ takes (arriving 3 0 0 0) 4
     ∷ takes (multicasting 2 1) 5
+    ∷ takes (ordering 2 1 249 3) 5
     ∷ takes (arriving 0 0 2 0) 5
     ∷ takes (multicasting 0 0) 6
     ∷ takes (multicasting 0 2) 6
+    ∷ takes (ordering 0 2 0 1) 6
     ∷ takes (arriving 0 0 0 1) 7
     ∷ takes (trusting 0 4) 8
-    ∷ takes (multicasting 0 1) 0
+    ∷ takes (ordering 0 1 249 3) 0
     ∷ takes (arriving 1 0 0 1) 11
     ∷ takes (losing 0 0 0 1) 12
     ∷ takes (crashing 1) 0
     ∷ takes (multicasting 1 1) 9
+    ∷ takes (ordering 1 1 1 0) 9
     ∷ takes (trusting 1 1) 9
     ∷ takes (arriving 0 0 0 1) 9
     ∷ takes (losing 0 0 0 1) 0

@@ -331,32 +331,42 @@ copy-law w u v p groups m {r} {q} hp er eq c d s e =
     ∙ encode-ext _ (with-copy s p groups m) (copy-same s p groups m hp)
 
 -- ---- the message is numbered
-pub numbered-law : (w : List ℕ) (p groups : ℕ) {m : ℕ} → m ≡ view w count → m < 64
-    → Changes w (set (set (set w (addr (sender m)) p) (addr (mask m)) groups) (addr count) (m + 1))
-    (λ s. numbered s p groups)
+pub numbered-law : (w : List ℕ) (p groups o : ℕ) {m : ℕ} → m ≡ view w count → m < 64
+    → Changes w
+    (set (set (set (set w (addr (sender m)) p) (addr (mask m)) groups) (addr (order m)) o) (addr count) (m + 1))
+    (λ s. numbered s p groups o)
 unfolding numbered
-numbered-law w p groups {m} em hm s e =
-    ap (λ (x : List ℕ). set (set (set x (addr (sender m)) p) (addr (mask m)) groups) (addr count) (m + 1)) e
-    ∙ ap (λ (x : List ℕ). set (set x (addr (mask m)) groups) (addr count) (m + 1))
-    (set-encode s (sender m) p hm)
-    ∙ ap (λ (x : List ℕ). set x (addr count) (m + 1)) (set-encode (put s (sender m) p) (mask m) groups hm)
-    ∙ set-encode (put (put s (sender m) p) (mask m) groups) count (m + 1) tt
-    ∙ ap (λ (k : ℕ). encode (put (put (put s (sender k) p) (mask k) groups) count (k + 1)))
+numbered-law w p groups o {m} em hm s e =
+    ap (λ (x : List ℕ). counted (ordered (masked (set x (addr (sender m)) p)))) e
+    ∙ ap (λ (x : List ℕ). counted (ordered (masked x))) (set-encode s (sender m) p hm)
+    ∙ ap (λ (x : List ℕ). counted (ordered x)) (set-encode (put s (sender m) p) (mask m) groups hm)
+    ∙ ap counted (set-encode (put (put s (sender m) p) (mask m) groups) (order m) o hm)
+    ∙ set-encode (put (put (put s (sender m) p) (mask m) groups) (order m) o) count (m + 1) tt
+    ∙ ap (λ (k : ℕ). encode (put (put (put (put s (sender k) p) (mask k) groups) (order k) o) count (k + 1)))
     (em ∙ reads-cell w count tt s e)
+  where
+    masked : List ℕ → List ℕ
+    masked x = set x (addr (mask m)) groups
+
+    ordered : List ℕ → List ℕ
+    ordered x = set x (addr (order m)) o
+
+    counted : List ℕ → List ℕ
+    counted x = set x (addr count) (m + 1)
 
 -- ---- the states on the way
 -- with the message numbered
-abbrev pub with-message : State → ℕ → ℕ → ℕ → State
-with-message s p groups m = numbered (with-copy s p groups m) p groups
+abbrev pub with-message : State → ℕ → ℕ → ℕ → ℕ → State
+with-message s p groups o m = numbered (with-copy s p groups m) p groups o
 
 pub count-kept : (s : State) (p groups m : ℕ) → with-copy s p groups m count ≡ s count
 unfolding stamped raised with-tables
 count-kept s p groups m = refl
 
-pub bounds-message : (s : State) (p groups m : ℕ) → p < 16 → s count < 64 → Bounds s
-    → Bounds (with-message s p groups m)
+pub bounds-message : (s : State) (p groups o m : ℕ) → p < 16 → s count < 64 → Bounds s
+    → Bounds (with-message s p groups o m)
 unfolding numbered stamped raised with-tables put
-bounds-message s p groups m hp room h = record {
+bounds-message s p groups o m hp room h = record {
   sizes = h .sizes;
   counts = omega arith;
   groups = h .groups;
@@ -368,10 +378,10 @@ bounds-message s p groups m hp room h = record {
 }
 
 -- the parts one after the other
-pub multicast-law : (w u1 u2 u3 : List ℕ) (p groups : ℕ) {m : ℕ} → length w ≡ 20480 → m ≡ view w count
-    → Changes w u1 (λ s. with-copy s p groups m) → Changes u1 u2 (λ s. numbered s p groups)
-    → Changes u2 u3 (λ s. sent s p m 0) → u3 ≡ encode (multicast (view w) p groups)
+pub multicast-law : (w u1 u2 u3 : List ℕ) (p groups o : ℕ) {m : ℕ} → length w ≡ 20480 → m ≡ view w count
+    → Changes w u1 (λ s. with-copy s p groups m) → Changes u1 u2 (λ s. numbered s p groups o)
+    → Changes u2 u3 (λ s. sent s p m 0) → u3 ≡ encode (multicast (view w) p groups o)
 unfolding multicast posted
-multicast-law w u1 u2 u3 p groups {m} l em c1 c2 c3 =
+multicast-law w u1 u2 u3 p groups o {m} l em c1 c2 c3 =
     c3 _ (c2 _ (c1 (view w) (sym (encode-view w l))))
-    ∙ ap (λ (x : ℕ). encode (posted (with-message (view w) p groups x) p x)) em
+    ∙ ap (λ (x : ℕ). encode (posted (with-message (view w) p groups o x) p x)) em

@@ -1,4 +1,4 @@
-// The multicast of a message by process p to the groups of a mask: p's counters and sequence counts rise,
+// The multicast of a message by process p to the groups of a mask, with an order number: p's counters and sequence counts rise,
 // are then copied onto the message, the message is numbered, and first letters go in flight.
 ghost use mathlib.Core.Path.{_≡_};
 ghost use Prim.Native.Nat.{_<_};
@@ -63,24 +63,26 @@ fn raise(w: &mut [u16], p: usize, groups: u16, m: usize)
     stamp(w, m, q);
 }
 
-// The next message is p's, to the groups of the mask.
-fn enter(w: &mut [u16], p: usize, groups: u16)
+// The next message is p's, to the groups of the mask, with this order number.
+fn enter(w: &mut [u16], p: usize, groups: u16, order: u16)
     requires { ⌜ (length (now w) ≡ 20480) × (p < 16) × (view (now w) count < 64) ⌝ }
-    ensures { λ _. ⌜ (length (now (w .exit)) ≡ 20480) × Changes (now (w .entry)) (now (w .exit)) (λ s. numbered s p groups) ⌝ }
+    ensures { λ _. ⌜ (length (now (w .exit)) ≡ 20480) × Changes (now (w .entry)) (now (w .exit)) (λ s. numbered s p groups order) ⌝ }
 {
     let m = cells::word(w, cells::COUNT);
-    w[cells::MESSAGES + m * cells::MESSAGE] = p as u16;
-    w[cells::MESSAGES + m * cells::MESSAGE + cells::MASK] = groups;
+    let at = cells::MESSAGES + m * cells::MESSAGE;
+    w[at] = p as u16;
+    w[at + cells::MASK] = groups;
+    w[at + cells::ORDER] = order;
     w[cells::COUNT] = (m + 1) as u16;
 }
 
 // The whole multicast.
-pub fn send_new(w: &mut [u16], p: usize, groups: u16)
+pub fn send_new(w: &mut [u16], p: usize, groups: u16, order: u16)
     requires { ⌜ (length (now w) ≡ 20480) × (p < 16) × (view (now w) count < 64) × Bounds (view (now w)) × Low (view (now w)) p ⌝ }
-    ensures { λ _. ⌜ now (w .exit) ≡ encode (multicast (view (now (w .entry))) p groups) ⌝ }
+    ensures { λ _. ⌜ now (w .exit) ≡ encode (multicast (view (now (w .entry))) p groups order) ⌝ }
 {
     let m = cells::word(w, cells::COUNT);
     raise(w, p, groups, m);
-    enter(w, p, groups);
+    enter(w, p, groups, order);
     sends::send(w, p, m, 0);
 }

@@ -21,13 +21,13 @@ use Rattle.order.specs.Counters.{own-all, OneMore, counting-sent, counte
 use Rattle.order.specs.Logs.{fifo-log-sent, causal-log-sent, quiet-sent}
 use Rattle.order.specs.Cascade.{MeaningOf, QuietOf}
 
-module _ (s : State) (es : List Event) (p groups : ℕ) (o : MeaningOf s es) where
+module _ (s : State) (es : List Event) (p groups order-no : ℕ) (o : MeaningOf s es) where
   -- one more, as the counters count
   raised-suc : (b : Bool) (v : ℕ) → pick b (v + 1) v ≡ pick b (suc v) v
   raised-suc b v = ap (λ (z : ℕ). pick b z v) (add-one v)
 
   -- the messages after it
-  pub one-more : OneMore (messages s) (knowledge es) p groups (messages (multicast s p groups))
+  pub one-more : OneMore (messages s) (knowledge es) p groups (messages (multicast s p groups order-no))
   unfolding multicast posted numbered stamped raised put with-tables
   one-more = record {
     total = refl;
@@ -51,11 +51,11 @@ module _ (s : State) (es : List Event) (p groups : ℕ) (o : MeaningOf s es) whe
       apart : (x : ℕ) → x < s count → s count ≢ x
       apart x h = omega arith
 
-      stamp-is : (g q : ℕ) → multicast s p groups (stamp (s count) g q)
+      stamp-is : (g q : ℕ) → multicast s p groups order-no (stamp (s count) g q)
           ≡ pick (both (eqb p q) (bit groups g)) (s (counter p g q) + 1) (s (counter p g q))
       stamp-is g q = rw (eqb-refl (s count), eqb-refl p)
 
-      number-is : (g : ℕ) → multicast s p groups (number (s count) g)
+      number-is : (g : ℕ) → multicast s p groups order-no (number (s count) g)
           ≡ pick (bit groups g) (s (sequence p g) + 1) (s (sequence p g))
       number-is g = rw (eqb-refl (s count), eqb-refl p)
 
@@ -65,7 +65,7 @@ module _ (s : State) (es : List Event) (p groups : ℕ) (o : MeaningOf s es) whe
   grouped false b c = refl
 
   -- the counters and logs mean what they should
-  pub meaning-multicast : p < s size → MeaningOf (multicast s p groups) (sent p (s count) ∷ es)
+  pub meaning-multicast : p < s size → MeaningOf (multicast s p groups order-no) (sent p (s count) ∷ es)
   unfolding multicast posted numbered stamped raised put with-tables knowledge
   meaning-multicast hp = record {
     counting = counting-sent (o .counting) one-more hp;
@@ -86,16 +86,17 @@ module _ (s : State) (es : List Event) (p groups : ℕ) (o : MeaningOf s es) whe
   }
 
   -- and nothing is left to deliver
-  pub quiet-multicast : QuietOf s → QuietOf (multicast s p groups)
+  pub quiet-multicast : QuietOf s → QuietOf (multicast s p groups order-no)
   unfolding multicast posted numbered stamped raised put with-tables
   quiet-multicast z r = quiet-sent (o .counting) one-more (own s r) (o .each r .fifo-log) (z r)
 
 -- no causal log grows
-pub multicast-logs : (s : State) (p groups r : ℕ) → multicast s p groups (causal-length r) ≡ s (causal-length r)
+pub multicast-logs : (s : State) (p groups order-no r : ℕ)
+    → multicast s p groups order-no (causal-length r) ≡ s (causal-length r)
 unfolding multicast posted numbered stamped raised put with-tables
-multicast-logs s p groups r = refl
+multicast-logs s p groups order-no r = refl
 
 -- there is one message more
-pub multicast-count : (s : State) (p groups : ℕ) → multicast s p groups count ≡ suc (s count)
+pub multicast-count : (s : State) (p groups order-no : ℕ) → multicast s p groups order-no count ≡ suc (s count)
 unfolding multicast posted numbered stamped raised put with-tables
-multicast-count s p groups = add-one (s count)
+multicast-count s p groups order-no = add-one (s count)

@@ -149,30 +149,30 @@ module _ (s t : State) (es : List Event) (e : scene t ≡ scene s) where
       (subst QuietIn (sym e) (w .quiet)) w
 
 -- who multicast a message is its sender, after a multicast
-multicast-senders : (s : State) (es : List Event) (p groups : ℕ) → Whole (with-history s es) → (i q m : ℕ)
-    → At (sent p (s count) ∷ es) i (sent q m) → multicast s p groups (sender m) ≡ q
-multicast-senders s es p groups w i q m (here h) = one-more s es p groups (w .meaning) .new-sender
-multicast-senders s es p groups w i q m (there a) =
-    one-more s es p groups (w .meaning) .old-sender m (cast-low es (w .formed) a) ∙ w .senders i q m a
+multicast-senders : (s : State) (es : List Event) (p groups order-no : ℕ) → Whole (with-history s es) → (i q m : ℕ)
+    → At (sent p (s count) ∷ es) i (sent q m) → multicast s p groups order-no (sender m) ≡ q
+multicast-senders s es p groups order-no w i q m (here h) = one-more s es p groups order-no (w .meaning) .new-sender
+multicast-senders s es p groups order-no w i q m (there a) =
+    one-more s es p groups order-no (w .meaning) .old-sender m (cast-low es (w .formed) a) ∙ w .senders i q m a
 
 -- every accepted step keeps the invariant
 pub whole-step : (s : State) (es : List Event) (x : Step) → accepted s x ≡ true → Whole (with-history s es)
     → Whole (taken on-states (with-history s es) x)
 unfolding step trust-set crash arrival leave put
-whole-step s es (multicasts p groups) e w =
-    let a = accepted-multicast s p groups e in
-    let t = multicast s p groups in
-    let none = gained-none (s size) s t (sent p (s count) ∷ es) (λ r _. multicast-logs s p groups r) in
+whole-step s es (multicasts p groups order-no) e w =
+    let a = accepted-multicast s p groups order-no e in
+    let t = multicast s p groups order-no in
+    let none = gained-none (s size) s t (sent p (s count) ∷ es) (λ r _. multicast-logs s p groups order-no r) in
     record {
-      sound = step-sound s (multicasts p groups) e (w .sound);
-      meaning = rw none (meaning-multicast s es p groups (w .meaning) (a .process));
-      quiet = quiet-multicast s es p groups (w .meaning) (w .quiet);
+      sound = step-sound s (multicasts p groups order-no) e (w .sound);
+      meaning = rw none (meaning-multicast s es p groups order-no (w .meaning) (a .process));
+      quiet = quiet-multicast s es p groups order-no (w .meaning) (w .quiet);
       formed =
-          rw (multicast-count s p groups)
+          rw (multicast-count s p groups order-no)
           (gained-keeps (Formed (suc (s count))) (λ _ _ _ h. h) (s size) s t (sent p (s count) ∷ es)
           (refl, w .formed));
       senders = λ i q m b.
-          multicast-senders s es p groups w i q m (old-sent s t (sent p (s count) ∷ es) b);
+          multicast-senders s es p groups order-no w i q m (old-sent s t (sent p (s count) ∷ es) b);
     }
 whole-step s es (arrives k m q p) e w =
     let l = accepted-arrival s k m q p e .letter in

@@ -9,10 +9,10 @@ use lib.Dec.{eqb, ltb}
 use lib.ListN.{length, take, drop}
 use borrow.Author.Tests.{eq-eqb, ne-eqb, lt-ltb, le-ltb, eqb-true, ltb-true}
 use Rattle.definitions.specs.General.{pick, needs, gives, refuses}
-use Rattle.definitions.specs.World.{size, encode, view, is-process}
+use Rattle.definitions.specs.World.{size, count, order, encode, view, is-process}
 use Rattle.definitions.specs.Sound.{sound}
 use Rattle.definitions.specs.Steps.{read, refusal, accepted, step, after}
-use Rattle.definitions.specs.Words.{needs-world, step-words, step-refusal, stepped-words, settle-words, settled-words, settle-reply, log-length, log-start, log-refusal, log-words, length-reply}
+use Rattle.definitions.specs.Words.{needs-world, step-words, step-refusal, stepped-words, settle-words, settled-words, settle-reply, log-length, log-start, log-refusal, log-words, length-reply, order-reply, order-refusal}
 use Rattle.base.specs.Refusals.{needs-none, reply-gives, reply-refuses}
 use Rattle.world.specs.Layout.{encode-view}
 use Rattle.world.specs.SoundLaws.{sound-facts, size-high, count-high, fifo-length-high, causal-length-high}
@@ -153,3 +153,19 @@ log-inside w p false n h =
     let a = size-high (view w) s in
     let b : p < 16 = omega (arith, h .process-there) in
     (b, omega (arith, h .items, count-high (view w) s, fifo-length-high (view w) s p b))
+
+-- ---- order numbers
+pub order-refused : (w : List ℕ) (m r : ℕ) → (r ≡ 0 → ⊥) → r ≡ needs-world w 0 → refuses r ≡ order-reply w m
+unfolding order-reply order-refusal
+order-refused w m r n e =
+    let z = e ∙ still-refused w 0 (needs 7 (ltb m (view w count)) 0) (λ q. n (e ∙ q)) in
+    rw (← z, ne-eqb r 0 n)
+
+pub order-absent : (w : List ℕ) (m : ℕ) → needs-world w 0 ≡ 0 → view w count ≤ m → refuses 7 ≡ order-reply w m
+unfolding order-reply order-refusal
+order-absent w m e h = rw (still-taken w (needs 7 (ltb m (view w count)) 0) e, le-ltb m (view w count) h)
+
+pub order-there : (w : List ℕ) (m : ℕ) → needs-world w 0 ≡ 0 → m < view w count
+    → gives (view w (order m)) ≡ order-reply w m
+unfolding order-reply order-refusal
+order-there w m e h = rw (still-taken w (needs 7 (ltb m (view w count)) 0) e, lt-ltb m (view w count) h)

@@ -1,10 +1,12 @@
-// Words that are lent as a world, tested; and the logs of a world read. Neither asks anything of its caller.
+// Words that are lent as a world, tested; the logs of a world and the order numbers of its messages read. None of it asks
+// anything of its caller.
 use definitions::Amount;
+use definitions::OrderNumber;
 use definitions::Outcome;
 use definitions::Refusal;
 ghost use mathlib.Core.Path.{_≡_};
-ghost use Rattle.definitions.specs.Words.{needs-world, log-words, length-reply};
-ghost use Rattle.definitions.specs.Answers.{outcome-number, amount-reply};
+ghost use Rattle.definitions.specs.Words.{needs-world, log-words, length-reply, order-reply};
+ghost use Rattle.definitions.specs.Answers.{outcome-number, amount-reply, order-number-reply};
 
 // Whether the words are a sound world: 1, then 2.
 pub fn tested(w: &[u16]) -> Outcome
@@ -41,4 +43,17 @@ pub fn log(w: &[u16], p: usize, causal: bool) -> &[u16]
     };
     let at = logs::start(p, causal);
     &w[at..at + n]
+}
+
+// The order number of message m: 1, 2, then 7.
+pub fn order(w: &[u16], m: usize) -> OrderNumber
+    ensures { λ r. ⌜ order-number-reply r ≡ order-reply (now (w .entry)) m ⌝ }
+{
+    if let Outcome::Refused(r) = tested(w) {
+        return OrderNumber::Refused(r);
+    }
+    if cells::word(w, cells::COUNT) <= m {
+        return OrderNumber::Refused(Refusal::NoMessage);
+    }
+    OrderNumber::Is(w[cells::MESSAGES + m * cells::MESSAGE + cells::ORDER])
 }

@@ -91,11 +91,11 @@ abbrev pub process-refusal : State → ℕ → Bool → ℕ → ℕ
 process-refusal s p good n = needs 5 (is-process s p) (needs n good (needs 9 (is-up s p) 0))
 
 -- a multicast is refused for these, or for want of room
-pub multicast-front : (s : State) (p groups : ℕ)
+pub multicast-front : (s : State) (p groups o : ℕ)
     → or-else (process-refusal s p (good-mask s groups) 6) (needs 10 (ltb (s count) 64) 0)
-    ≡ refusal s (multicasts p groups)
+    ≡ refusal s (multicasts p groups o)
 unfolding refusal
-multicast-front s p groups = three-front 4 5 8 (is-process s p) (good-mask s groups) (is-up s p) _
+multicast-front s p groups o = three-front 4 5 8 (is-process s p) (good-mask s groups) (is-up s p) _
 
 -- ---- the operands of a letter
 abbrev pub operands-refusal : State → ℕ → ℕ → ℕ → ℕ → ℕ

@@ -3,7 +3,7 @@ use definitions::Outcome;
 use definitions::Refusal;
 ghost use mathlib.Core.Path.{_≡_};
 ghost use mathlib.Core.Bool.{not, _&&_, _||_};
-ghost use Prim.Native.Nat.{_^_, _≤_, _<_};
+ghost use Prim.Native.Nat.{ℕ, _^_, _≤_, _<_};
 ghost use lib.Dec.{ltb};
 ghost use lib.ListN.{length};
 ghost use Rattle.definitions.specs.General.{pick, bit, only};
@@ -121,10 +121,10 @@ fn of_process(w: &[u16], p: usize, good: bool, mask: Refusal) -> Outcome
     Outcome::Taken
 }
 
-// A multicast by p to the groups of a mask.
+// A multicast by p to the groups of a mask, with any order number.
 pub fn of_multicast(w: &[u16], p: usize, groups: u16) -> Outcome
     requires { ⌜ (length (now w) ≡ 20480) × Bounds (view (now w)) ⌝ }
-    ensures { λ r. ⌜ outcome-number r ≡ refusal (view (now (w .entry))) (multicasts p groups) ⌝ }
+    ensures { λ r. ⌜ ((o : ℕ) → outcome-number r ≡ refusal (view (now (w .entry))) (multicasts p groups o)) ⌝ }
 {
     let good = is_good_mask(w, groups);
     if let Outcome::Refused(r) = of_process(w, p, good, Refusal::BadMask) {

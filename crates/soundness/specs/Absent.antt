@@ -110,5 +110,5 @@ module _ (w : List ℕ) where
   absent-message (stamp m g q) k lo hi = no-pair _ _ _ _ _ (no-message m (omega arith))
   absent-message (number m g) k lo hi = no-row _ _ _ _ (no-message m (omega arith))
   absent-message (flight m i q) k lo hi = no-row _ _ _ _ (no-message m (omega arith))
-  absent-message (order m) k lo hi = refl
+  absent-message (order m) k lo hi = idle _ _ _ (no-message m (omega arith))
   absent-message (unused i) k lo hi = refl

@@ -47,10 +47,10 @@ module _ (w : List ℕ) (l : length w ≡ 20480) (h : Sound (view w)) where
   process : (p : ℕ) → p < s size → p < 16
   process p k = omega (arith, size-high s h)
 
-  pub can-multicast : (p groups : ℕ) → refusal s (multicasts p groups) ≡ 0
+  pub can-multicast : (p groups o : ℕ) → refusal s (multicasts p groups o) ≡ 0
       → (length w ≡ 20480) × (p < 16) × (s count < 64) × Bounds s × Low s p
-  can-multicast p groups e =
-      let a = accepted-multicast s p groups (eq-eqb _ 0 e) in
+  can-multicast p groups o e =
+      let a = accepted-multicast s p groups o (eq-eqb _ 0 e) in
       let k = process p (a .process) in
       (l, k, a .room, sound-bounds s h, sound-low s p k h)
 

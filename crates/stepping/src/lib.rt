@@ -19,7 +19,7 @@ fn judge(w: &[u16], x: Given) -> Outcome
     ensures { λ r. ⌜ outcome-number r ≡ refusal (view (now (w .entry))) (step-of x) ⌝ }
 {
     match x {
-        Given::Multicast(p, groups) => refusals::of_multicast(w, p, groups),
+        Given::Multicast(p, groups, _) => refusals::of_multicast(w, p, groups),
         Given::Arrival(k, m, q, p) => refusals::of_letter(w, k, m, q, p, false),
         Given::Loss(k, m, q, p) => refusals::of_letter(w, k, m, q, p, true),
         Given::Trust(p, set) => refusals::of_trust(w, p, set),
@@ -34,7 +34,7 @@ fn act(w: &mut [u16], x: Given, quiescent: bool)
     ensures { λ _. ⌜ now (w .exit) ≡ encode (stepped (view (now (w .entry))) (step-of x)) ⌝ }
 {
     match x {
-        Given::Multicast(p, groups) => multicasts::send_new(w, p, groups),
+        Given::Multicast(p, groups, order) => multicasts::send_new(w, p, groups, order),
         Given::Arrival(k, m, q, p) => {
             arrivals::arrive(w, k, m, q, p, quiescent);
         }

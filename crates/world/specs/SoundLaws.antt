@@ -438,7 +438,7 @@ module _ (s t : State) (e : (c : Cell) → Looked c → Within c → s c ≡ t c
   fit-on (flight m i q) k =
       word-on (s (flight m i q)) (ap₂ both (message-on m) (sends-on m i q (k .0) (k .2)))
       (only-cong 16 (s (flight m i q)) (addressee s m) (addressee t m) (λ p l. addressee-on m p (k .0) l))
-  fit-on (order m) k = refl
+  fit-on (order m) k = word-on (s (order m)) (message-on m) refl
   fit-on (unused i) k = refl
 
 -- ---- soundness looks at the world's cells only

@@ -21,11 +21,11 @@ pub record Multicasts (s : State) (p groups : ℕ) : Type 0 where
   pub live : s (up p) ≡ 1
   pub room : s count < 64
 
-pub accepted-multicast : (s : State) (p groups : ℕ) → accepted s (multicasts p groups) ≡ true
+pub accepted-multicast : (s : State) (p groups o : ℕ) → accepted s (multicasts p groups o) ≡ true
     → Multicasts s p groups
 unfolding refusal
-accepted-multicast s p groups e =
-    let a = needs-none 4 (is-process s p) _ (eqb-true (refusal s (multicasts p groups)) 0 e) in
+accepted-multicast s p groups o e =
+    let a = needs-none 4 (is-process s p) _ (eqb-true (refusal s (multicasts p groups o)) 0 e) in
     let b = needs-none 5 (good-mask s groups) _ (a .1) in
     let c = needs-none 8 (is-up s p) _ (b .1) in
     let d = needs-none 9 (ltb (s count) 64) 0 (c .1) in

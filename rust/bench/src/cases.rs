@@ -25,6 +25,7 @@ pub fn run(case: &str, side: &Side, processes: usize, messages: usize) -> Option
             1
         }
         "log" => (side.log)(&full(&setup, messages)),
+        "order" => order(side, &full(&setup, messages)),
         "step" => public_steps(side, &setup),
         "settle" => (side.settle)(&mut flying(&setup, messages)) as usize,
         "count" => (side.count)(&run_journal(&setup)),
@@ -44,14 +45,16 @@ fn setup(processes: usize) -> Record {
     record::setup(&groups)
 }
 
-/// The world after messages to all groups, from each process in turn: every first letter in flight.
+/// The world after messages to all groups, from each process in turn and with order numbers from 1,000 on: every first
+/// letter in flight.
 fn flying(setup: &[u8], messages: usize) -> Vec<u16> {
     let mut words = vec![0; WORDS];
     calls::make(&mut words, setup).expect("a good setup");
     let processes = usize::from(setup[1]);
     let groups = ((1_u32 << ((processes + 1) / 2)) - 1) as u8;
     for m in 0..messages {
-        calls::step(&mut words, &record::multicast(m % processes, groups)).expect("a multicast is taken");
+        let step = record::multicast_with_order(m % processes, groups, 1_000 + m as u16);
+        calls::step(&mut words, &step).expect("a multicast is taken");
     }
     words
 }
@@ -66,6 +69,11 @@ fn full(setup: &[u8], messages: usize) -> Vec<u16> {
 fn sound(side: &Side, words: &[u16]) -> usize {
     (side.sound)(words);
     words.len()
+}
+
+fn order(side: &Side, words: &[u16]) -> usize {
+    assert_eq!((side.order)(words), 1_063);
+    1
 }
 
 /// A long random run: a setup and steps, most of which the world takes.

@@ -7,11 +7,16 @@ extern "C" {
     fn wt_bench_sound(words: *const u16, length: usize) -> u32;
 }
 
+/// The last message of a full world.
+const LAST: usize = 63;
+
 /// The calls that the cases are about. Each is given what it takes, and must not be refused.
 pub struct Side {
     pub sound: fn(&[u16]),
     pub make: fn(&mut [u16], &[u8]),
     pub log: fn(&[u16]) -> usize,
+    /// The order number of the last message.
+    pub order: fn(&[u16]) -> u16,
     pub step: fn(&mut [u16], &[u8]),
     pub settle: fn(&mut [u16]) -> u32,
     pub count: fn(&[u8]) -> usize,
@@ -22,6 +27,7 @@ pub const ARCHIVE: Side = Side {
     sound: archive_sound,
     make: |words, setup| engine::world::make(words, setup).expect("a good setup"),
     log: |words| engine::world::log(words, 0, true).expect("a sound world").len(),
+    order: |words| engine::world::order(words, LAST as u32).expect("a full world"),
     step: |words, step| {
         let _ = engine::world::step(words, step);
     },
@@ -34,6 +40,7 @@ pub const REFERENCE: Side = Side {
     sound: reference_sound,
     make: reference_make,
     log: reference_log,
+    order: reference_order,
     step: reference_step,
     settle: reference_settle,
     count: reference_count,
@@ -62,6 +69,12 @@ pub fn reference_make(words: &mut [u16], setup: &[u8]) {
 #[inline(never)]
 pub fn reference_log(words: &[u16]) -> usize {
     calls::log(words, 0, true).expect("a sound world").len()
+}
+
+#[no_mangle]
+#[inline(never)]
+pub fn reference_order(words: &[u16]) -> u16 {
+    calls::order(words, LAST).expect("a full world")
 }
 
 #[no_mangle]

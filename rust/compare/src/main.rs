@@ -41,7 +41,7 @@ const AREAS: [Area; 6] = [
         name: "step",
         input: world::steps,
         answers: world::STEP_ANSWERS,
-        cover: &[],
+        cover: world::STEP_COVER,
         weight: world::STEPS,
     },
     Area { name: "settle", input: world::settles, answers: world::SETTLE_ANSWERS, cover: &[], weight: 100 },

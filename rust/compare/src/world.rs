@@ -9,25 +9,40 @@ use crate::tally::Tally;
 use inputs::Start;
 use reference::random::Random;
 use reference::sample::{self, Weights, CALM, FLOOD, RACE, STORM, WRONG};
-use reference::words::{encode, WORDS};
-use reference::world::World;
+use reference::words::{encode, order_place, WORDS};
+use reference::world::{World, MESSAGES};
 
-/// The words that are changed one by one in one input.
+/// The words that are changed one by one in one input, and the order words.
 const CHANGED: usize = 32;
+const ORDERS: usize = 8;
 /// The steps of one input.
 pub const STEPS: u64 = 200;
 
 pub const ANSWERS: &[(&str, &[u32])] = &[
     ("make", &[0, 1, 3]),
     ("log", &[0, 1, 2, 5]),
+    ("order, a number", &[0]),
+    ("order, none", &[0]),
+    ("order", &[1, 2, 7]),
     ("step", &[0, 1, 2, 4, 5, 6, 7, 8, 9, 10, 11, 12]),
     ("settle, done", &[0]),
     ("settle, stopped", &[0]),
     ("settle", &[1, 2]),
 ];
-pub const COVER: &[(&str, usize)] = &[("word changed", WORDS)];
+pub const COVER: &[(&str, usize)] = &[
+    ("word changed", WORDS),
+    ("order word of a message changed", MESSAGES),
+    ("order word of an absent message changed", MESSAGES),
+];
 
-pub const STEP_ANSWERS: &[(&str, &[u32])] = &[("step", &[0, 4, 5, 6, 7, 8, 9, 10, 11, 12])];
+pub const STEP_ANSWERS: &[(&str, &[u32])] = &[
+    ("step", &[0, 4, 5, 6, 7, 8, 9, 10, 11, 12]),
+    ("order, a number", &[0]),
+    ("order, none", &[0]),
+    ("order", &[7]),
+];
+pub const STEP_COVER: &[(&str, usize)] = &[("order number multicast", MESSAGES)];
+
 pub const SETTLE_ANSWERS: &[(&str, &[u32])] = &[("settle, done", &[0]), ("settle, stopped", &[0])];
 pub const REPLAY_ANSWERS: &[(&str, &[u32])] = &[("replay", &[0, 1, 3, 13, 14, 15])];
 
@@ -35,8 +50,8 @@ const STARTS: [Start; 2] = [Start::Fresh, Start::Sound];
 
 /// A world and all calls on it that need no list of steps.
 pub fn input(index: u64, random: &mut Random, tally: &mut Tally) -> Result<(), Difference> {
-    let turn = index / 4;
-    match index % 4 {
+    let turn = index / 5;
+    match index % 5 {
         0 => setups(random, tally),
         1 => lengths(random, tally),
         2 => {
@@ -44,6 +59,7 @@ pub fn input(index: u64, random: &mut Random, tally: &mut Tally) -> Result<(), D
             tally.input("world, sound");
             all_calls(&encode(&world), random, tally)
         }
+        3 => one_order_changed(turn, random, tally),
         _ => one_word_changed(turn, random, tally),
     }
 }
@@ -80,11 +96,34 @@ fn one_word_changed(turn: u64, random: &mut Random, tally: &mut Tally) -> Result
     Ok(())
 }
 
-/// A log, and now and then a step and a settle.
+/// A sound world with one order number changed: messages in turn. It stays sound if there is such a message.
+fn one_order_changed(turn: u64, random: &mut Random, tally: &mut Tally) -> Result<(), Difference> {
+    let world = inputs::world(random, &STARTS);
+    let words = encode(&world);
+    for i in 0..ORDERS {
+        let message = (turn as usize * ORDERS + i) % MESSAGES;
+        let (kind, items) = if message < world.messages.len() {
+            ("world, order number changed", "order word of a message changed")
+        } else {
+            ("world, order number of an absent message", "order word of an absent message changed")
+        };
+        tally.input(kind);
+        tally.cover(items, message);
+        let mut changed = words.clone();
+        let at = order_place(message);
+        changed[at] = inputs::other_word(random, words[at]);
+        calls::order(&Lent::holding(random, &changed), message as u32, tally)?;
+        all_calls(&changed, random, tally)?;
+    }
+    Ok(())
+}
+
+/// A log and an order number, and now and then a step and a settle.
 fn all_calls(words: &[u16], random: &mut Random, tally: &mut Tally) -> Result<(), Difference> {
     let words = Lent::holding(random, words);
     let process = random.below(18) as u32;
     calls::log(&words, process, random.one_in(2), tally)?;
+    calls::order(&words, inputs::message(random, words.part()), tally)?;
     if random.one_in(4) {
         calls::step(&words, &inputs::any_step(random), random, tally)?;
         calls::settle(&words, random.below(20) as u32, tally)?;
@@ -92,7 +131,7 @@ fn all_calls(words: &[u16], random: &mut Random, tally: &mut Tally) -> Result<()
     Ok(())
 }
 
-/// A list of steps from a world: the answer and all words after each step.
+/// A list of steps from a world: the answer and all words after each step, and the order numbers at the end.
 pub fn steps(index: u64, random: &mut Random, tally: &mut Tally) -> Result<(), Difference> {
     const KINDS: [(&str, Weights, Start); 6] = [
         ("steps, calm", CALM, Start::Fresh),
@@ -110,7 +149,7 @@ pub fn steps(index: u64, random: &mut Random, tally: &mut Tally) -> Result<(), D
         let step = sample::step(random, &world, &weights);
         calls::step_on(&mut world, &mut words, &step, tally)?;
     }
-    Ok(())
+    calls::orders(&world, &words, tally)
 }
 
 /// A settle of a world with a budget about what it needs.

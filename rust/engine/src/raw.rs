@@ -25,6 +25,7 @@ extern "C" {
         start: *mut u32,
         length: *mut u32,
     ) -> u32;
+    fn wt_order(world: *const u16, world_length: usize, message: u32, number: *mut u32) -> u32;
     fn wt_step(world: *mut u16, world_length: usize, step: *const u8, step_length: usize) -> u32;
     fn wt_settle(
         world: *mut u16,
@@ -78,6 +79,11 @@ pub fn world_make(world: &mut [u16], setup: &[u8]) -> u32 {
 pub fn world_log(world: &[u16], process: u32, causal: bool, start: &mut u32, length: &mut u32) -> u32 {
     version::test(version());
     unsafe { wt_world_log(world.as_ptr(), world.len(), process, causal, start, length) }
+}
+
+pub fn order(world: &[u16], message: u32, number: &mut u32) -> u32 {
+    version::test(version());
+    unsafe { wt_order(world.as_ptr(), world.len(), message, number) }
 }
 
 pub fn step(world: &mut [u16], step: &[u8]) -> u32 {

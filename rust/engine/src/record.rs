@@ -98,10 +98,11 @@ pub struct Letter {
 /// A step that is well formed; whether a world takes it is the world's to say.
 #[derive(Clone, Copy, Debug, PartialEq, Eq, Hash)]
 pub enum Step {
-    /// Bit g of `groups` is set: group g is addressed.
+    /// Bit g of `groups` is set: group g is addressed. `order` is the order number, 0 for no order.
     Multicast {
         process: u8,
         groups: u8,
+        order: u16,
     },
     Arrival(Letter),
     Loss(Letter),
@@ -122,10 +123,16 @@ const TRUST: u8 = 4;
 const CRASH: u8 = 5;
 
 impl Step {
-    /// The process multicasts the next message to these groups. Refusal 6 for a group above 7, which no mask can name.
+    /// The process multicasts the next message to these groups, with no order. Refusal 6 for a group above 7, which no
+    /// mask can name.
     pub fn multicast(process: u8, groups: &[u8]) -> Result<Step, Refusal> {
+        Step::multicast_with_order(process, groups, 0)
+    }
+
+    /// The same with an order number; 0 means no order. Refusal 6.
+    pub fn multicast_with_order(process: u8, groups: &[u8], order: u16) -> Result<Step, Refusal> {
         let mask = mask(groups, GROUPS).ok_or(Refusal::GroupMask)?;
-        Ok(Step::Multicast { process, groups: mask as u8 })
+        Ok(Step::Multicast { process, groups: mask as u8, order })
     }
 
     /// The letter arrives.
@@ -154,12 +161,17 @@ impl Step {
     ///
     /// assert_eq!(Step::arrival(LetterKind::Ok, 5, 0, 3).record(), [2, 2, 5, 0, 3, 0, 0, 0]);
     /// assert_eq!(Step::multicast(1, &[0, 2])?.record(), [1, 1, 5, 0, 0, 0, 0, 0]);
+    /// // The order number's low byte comes first: 1017 is 3 x 256 + 0xf9.
+    /// assert_eq!(Step::multicast_with_order(1, &[0, 2], 1017)?.record(), [1, 1, 5, 0xf9, 3, 0, 0, 0]);
     /// # Ok::<(), engine::Refusal>(())
     /// ```
     pub fn record(self) -> Record {
         let letter = |step: u8, l: Letter| [step, l.kind.number(), l.message, l.from, l.to, 0, 0, 0];
         match self {
-            Step::Multicast { process, groups } => [MULTICAST, process, groups, 0, 0, 0, 0, 0],
+            Step::Multicast { process, groups, order } => {
+                let [low, high] = order.to_le_bytes();
+                [MULTICAST, process, groups, low, high, 0, 0, 0]
+            }
             Step::Arrival(l) => letter(ARRIVAL, l),
             Step::Loss(l) => letter(LOSS, l),
             Step::Trust { process, trusted } => {
@@ -178,7 +190,7 @@ impl Step {
             Some(Letter { message: b, kind, from: c, to: d })
         };
         let read = match step {
-            MULTICAST => Step::Multicast { process: a, groups: b },
+            MULTICAST => Step::Multicast { process: a, groups: b, order: u16::from_le_bytes([c, d]) },
             ARRIVAL => Step::Arrival(letter()?),
             LOSS => Step::Loss(letter()?),
             TRUST => Step::Trust { process: a, trusted: u16::from_le_bytes([b, c]) },

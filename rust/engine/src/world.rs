@@ -98,6 +98,22 @@ impl World {
         log(&self.words, process.into(), true)
     }
 
+    /// The order number of a message: the one that its multicast carried, 0 for no order. Refusal 7.
+    ///
+    /// ```
+    /// use engine::{Refusal, Step, World};
+    ///
+    /// let mut world = World::new(&[0, 1])?;
+    /// world.step(Step::multicast_with_order(0, &[1], 1017)?)?;
+    /// world.step(Step::multicast(0, &[1])?)?;
+    /// assert_eq!((world.order(0)?, world.order(1)?), (1017, 0));
+    /// assert_eq!(world.order(2), Err(Refusal::Message));
+    /// # Ok::<(), Refusal>(())
+    /// ```
+    pub fn order(&self, message: u8) -> Result<u16, Refusal> {
+        order(&self.words, message.into())
+    }
+
     /// The number of processes.
     pub fn processes(&self) -> usize {
         layout::processes(&self.words)
@@ -155,6 +171,13 @@ pub fn log(world: &[u16], process: u32, causal: bool) -> Result<&[u16], Refusal>
     let (mut start, mut length) = (0, 0);
     Refusal::check(raw::world_log(world, process, causal, &mut start, &mut length))?;
     Ok(&world[start as usize..][..length as usize])
+}
+
+/// The order number of a message, 0 for no order. Refusals 1, 2, 7.
+pub fn order(world: &[u16], message: u32) -> Result<u16, Refusal> {
+    let mut number = 0;
+    Refusal::check(raw::order(world, message, &mut number))?;
+    Ok(u16::try_from(number).expect("an order number has 16 bits"))
 }
 
 /// Takes a step of 8 bytes. Refusals 1, 2, 4 to 12.

@@ -44,6 +44,8 @@ fn records() -> Result<Vec<String>, Refusal> {
         line("setup 0 to 7 to 0", Setup::new(&most)?.record()),
         format!("setup 0 8: {}; setup of 17: {}", refused(&[0, 8]), refused(&[0; 17])),
         line("multicast 15 to 0 7", Step::multicast(15, &[0, 7])?.record()),
+        line("multicast 15 to 0 7 order 1017", Step::multicast_with_order(15, &[0, 7], 1_017)?.record()),
+        line("multicast 15 to 0 7 order 65535", Step::multicast_with_order(15, &[0, 7], 65_535)?.record()),
         line("arrival first 63 from 1 to 2", Step::arrival(LetterKind::First, 63, 1, 2).record()),
         line("arrival relay 3 from 4 to 5", Step::arrival(LetterKind::Relay, 3, 4, 5).record()),
         line("loss ok 6 from 7 to 8", Step::loss(LetterKind::Ok, 6, 7, 8).record()),
@@ -60,8 +62,8 @@ fn refusals() -> Vec<String> {
 fn world() -> Result<Vec<String>, Refusal> {
     let mut world = World::new(&[0, 1, 1])?;
     world.step(Step::multicast(0, &[1])?)?;
-    world.step(Step::multicast(1, &[0, 1])?)?;
-    world.step(Step::multicast(0, &[1])?)?;
+    world.step(Step::multicast_with_order(1, &[0, 1], 1_017)?)?;
+    world.step(Step::multicast_with_order(0, &[1], 65_535)?)?;
     world.step(Step::arrival(LetterKind::First, 2, 0, 1))?;
     world.step(Step::trust(1, &[0, 1])?)?;
     world.step(Step::crash(2))?;
@@ -73,9 +75,11 @@ fn world() -> Result<Vec<String>, Refusal> {
         Some(format!("process {p}: group {group}, trusts {trusted:04x}, {up}"))
     }));
     lines.extend((0..=64).filter_map(|m| {
-        let (sender, groups) = (world.sender(m)?, world.group_mask(m)?);
-        Some(format!("message {m}: sender {sender}, groups {groups:02x}"))
+        let (sender, groups, order) = (world.sender(m)?, world.group_mask(m)?, world.order(m).ok()?);
+        Some(format!("message {m}: sender {sender}, groups {groups:02x}, order {order}"))
     }));
+    let refused = (0..=64).filter(|m| world.order(*m) == Err(Refusal::Message)).count();
+    lines.push(format!("no such message: {refused}"));
     lines.extend(world.letters().iter().map(|l| {
         let kind = l.kind.number();
         format!("in flight: message {}, kind {kind}, from {}, to {}", l.message, l.from, l.to)
@@ -157,6 +161,7 @@ fn refusals_have_the_words_of_document_01() {
 #[test]
 fn a_number_without_a_place_is_refused() {
     assert_eq!(Step::multicast(0, &[8]), Err(Refusal::GroupMask));
+    assert_eq!(Step::multicast_with_order(0, &[8], 1_017), Err(Refusal::GroupMask));
     assert_eq!(Step::trust(0, &[16]), Err(Refusal::TrustMask));
     assert_eq!(Setup::new(&[]), Err(Refusal::Setup));
     assert_eq!(World::new(&[0, 2]), Err(Refusal::Setup));

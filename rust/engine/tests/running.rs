@@ -276,6 +276,39 @@ fn a_world_kept_as_bytes_comes_back_and_goes_on() {
 }
 
 #[test]
+fn order_numbers_come_back_from_the_journal_and_from_kept_words() {
+    let mut mill = Mill::new(&[0, 1]);
+    mill.take(Step::multicast_with_order(0, &[1], 1_017).unwrap());
+    mill.multicast(0, &[1]);
+    mill.take(Step::multicast_with_order(1, &[0, 1], u16::MAX).unwrap());
+    mill.carry();
+    let kept = World::from_words(words(&kept(&mill.world))).unwrap();
+    for world in [&mill.world, &replayed(&mill.journal()), &kept] {
+        assert_eq!([0, 1, 2].map(|message| world.order(message)), [Ok(1_017), Ok(0), Ok(65_535)]);
+        assert_eq!(world.order(3), Err(Refusal::Message));
+    }
+}
+
+/// The machines do the same, whatever the order numbers are.
+#[test]
+fn an_order_number_changes_no_log_and_no_letter() {
+    let [with, without] = [1_017, 0].map(|order| {
+        let mut mill = Mill::new(&[0, 1, 1]);
+        mill.take(Step::multicast_with_order(0, &[1], order).unwrap());
+        mill.take(Step::multicast_with_order(1, &[0, 1], order).unwrap());
+        mill.carry();
+        mill.take(Step::multicast_with_order(2, &[1], order).unwrap());
+        mill.world
+    });
+    assert_ne!(with.words(), without.words());
+    assert_eq!(with.letters(), without.letters());
+    for machine in 0..3 {
+        assert_eq!(with.fifo_log(machine), without.fifo_log(machine));
+        assert_eq!(with.causal_log(machine), without.causal_log(machine));
+    }
+}
+
+#[test]
 fn kept_bytes_that_make_no_sound_world_are_refused() {
     let bytes = kept(&busy_mill().world);
     let changed = |at: usize, byte: u8| {

@@ -41,6 +41,12 @@ pub fn log(words: &[u16], process: usize, causal: bool) -> Result<&[u16], Refusa
     Ok(&words[start..start + usize::from(words[length])])
 }
 
+/// The order number of a message. Refusals 1, 2, 7.
+pub fn order(words: &[u16], message: usize) -> Result<u16, Refusal> {
+    let world = sound::read(words)?;
+    world.messages.get(message).map(|message| message.order).ok_or(Refusal::NoMessage)
+}
+
 /// Replays a journal: the number of records after the setup, and how many of these were refused. Refusals 1, 13,
 /// block by block 14 and 15, then 3.
 pub fn replay(words: &mut [u16], journal: &[u8]) -> Result<(u32, u32), Refusal> {

@@ -1,4 +1,5 @@
-//! The second implementation of document 01, written from the papers for clarity, to be held against the archive.
+//! The second implementation of document 01 and of card 1 of document 02, written from the papers for clarity, to be held
+//! against the archive.
 
 #![forbid(unsafe_code)]
 

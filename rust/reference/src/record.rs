@@ -15,7 +15,12 @@ pub fn setup(groups: &[usize]) -> Record {
 }
 
 pub fn multicast(process: usize, groups: u8) -> Record {
-    [1, process as u8, groups, 0, 0, 0, 0, 0]
+    multicast_with_order(process, groups, 0)
+}
+
+pub fn multicast_with_order(process: usize, groups: u8, order: u16) -> Record {
+    let [low, high] = order.to_le_bytes();
+    [1, process as u8, groups, low, high, 0, 0, 0]
 }
 
 pub fn arrival(letter: Letter) -> Record {

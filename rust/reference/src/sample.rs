@@ -88,7 +88,17 @@ fn any_multicast(random: &mut Random, world: &World) -> Record {
         2 => (1 << groups) - 1,
         _ => random.between(1, (1 << groups) - 1),
     };
-    record::multicast(any_process(random, world), mask as u8)
+    record::multicast_with_order(any_process(random, world), mask as u8, order(random))
+}
+
+/// An order number: none, a small one, one of two bytes, or the highest.
+pub fn order(random: &mut Random) -> u16 {
+    match random.below(4) {
+        0 => 0,
+        1 => random.between(1, 255) as u16,
+        2 => random.between(256, 65_534) as u16,
+        _ => u16::MAX,
+    }
 }
 
 /// An arrival at an up process mostly; a multicast mostly where no such letter is found.
@@ -168,6 +178,7 @@ pub fn sound_world(random: &mut Random, most: usize) -> World {
             groups: std::array::from_fn(|g| mask >> g & 1 == 1),
             counters: any_table(random, &world, count),
             sequence_numbers: any_numbers(random, groups, count),
+            order: order(random),
         };
         world.messages.push(message);
     }

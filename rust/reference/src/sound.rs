@@ -21,6 +21,7 @@ fn unused_words_are_zero(world: &World, words: &[u16]) -> bool {
     encode(world) == words
 }
 
+/// Any order number of a message is sound (document 02, card 1).
 fn is_sound(world: &World) -> bool {
     groups_have_no_gap(world)
         && messages_have_senders_and_groups(world)

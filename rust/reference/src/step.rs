@@ -1,11 +1,12 @@
-//! Document 01, "Steps": the five steps, with refusals 4 to 12.
+//! Document 01, "Steps": the five steps, with refusals 4 to 12; a multicast carries an order number (document 02,
+//! card 1).
 
 use crate::world::{Kind, Letter, Message, ProcessSet, World, GROUPS, MESSAGES};
 use crate::Refusal;
 
 /// The parts of a step that is well formed. Operands may still name what does not exist.
 enum Step {
-    Multicast { process: usize, mask: u8 },
+    Multicast { process: usize, mask: u8, order: u16 },
     Arrival(Letter),
     Loss(Letter),
     Trust { process: usize, mask: u16 },
@@ -18,7 +19,10 @@ impl Step {
             return Err(Refusal::Form);
         }
         let (step, used) = match bytes[0] {
-            1 => (Step::Multicast { process: usize::from(bytes[1]), mask: bytes[2] }, 3),
+            1 => {
+                let order = u16::from_le_bytes([bytes[3], bytes[4]]);
+                (Step::Multicast { process: usize::from(bytes[1]), mask: bytes[2], order }, 5)
+            }
             2 => (Step::Arrival(read_letter(bytes)?), 5),
             3 => (Step::Loss(read_letter(bytes)?), 5),
             4 => {
@@ -50,7 +54,7 @@ impl World {
     /// Takes a step, or refuses it and changes nothing.
     pub fn step(&mut self, bytes: &[u8]) -> Result<(), Refusal> {
         match Step::read(bytes)? {
-            Step::Multicast { process, mask } => self.multicast(process, mask),
+            Step::Multicast { process, mask, order } => self.multicast(process, mask, order),
             Step::Arrival(letter) => self.arrival(letter),
             Step::Loss(letter) => self.loss(letter),
             Step::Trust { process, mask } => self.trust(process, mask),
@@ -58,7 +62,7 @@ impl World {
         }
     }
 
-    fn multicast(&mut self, p: usize, mask: u8) -> Result<(), Refusal> {
+    fn multicast(&mut self, p: usize, mask: u8, order: u16) -> Result<(), Refusal> {
         self.exists(p)?;
         if mask == 0 || usize::from(mask) >= 1 << self.groups() {
             return Err(Refusal::GroupMask);
@@ -75,7 +79,7 @@ impl World {
         }
         let counters = self.processes[p].counters;
         let sequence_numbers = self.processes[p].sequence_counts;
-        self.messages.push(Message { sender: p, groups, counters, sequence_numbers });
+        self.messages.push(Message { sender: p, groups, counters, sequence_numbers, order });
         self.send(self.messages.len() - 1, Kind::First, p);
         Ok(())
     }

@@ -37,6 +37,7 @@ mod message {
     pub const COUNTERS: usize = 2;
     pub const SEQUENCE_NUMBERS: usize = 130;
     pub const FLIGHT: usize = 138;
+    pub const ORDER: usize = 186;
 }
 
 const KINDS: [Kind; 3] = [Kind::First, Kind::Relay, Kind::Ok];
@@ -49,6 +50,11 @@ pub fn log_place(process: usize, causal: bool) -> (usize, usize) {
     } else {
         (block + process::FIFO_LOG, block + process::FIFO_LENGTH)
     }
+}
+
+/// The place of a message's order number in the words of a world.
+pub fn order_place(message: usize) -> usize {
+    MESSAGE_BLOCKS + message * MESSAGE_BLOCK + message::ORDER
 }
 
 /// The words of a world.
@@ -96,6 +102,7 @@ fn encode_message(message: &Message, block: &mut [u16]) {
     block[message::GROUPS] = mask_of(&message.groups);
     encode_table(&message.counters, &mut block[message::COUNTERS..]);
     block[message::SEQUENCE_NUMBERS..][..GROUPS].copy_from_slice(&message.sequence_numbers);
+    block[message::ORDER] = message.order;
 }
 
 fn encode_table(table: &Table, block: &mut [u16]) {
@@ -176,6 +183,7 @@ fn decode_message(block: &[u16], sizes: &Sizes) -> Message {
         groups,
         counters: decode_table(&block[message::COUNTERS..], sizes),
         sequence_numbers: first(&block[message::SEQUENCE_NUMBERS..], sizes.groups),
+        order: block[message::ORDER],
     }
 }
 

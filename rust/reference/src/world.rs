@@ -49,6 +49,8 @@ pub struct Message {
     pub counters: Table,
     /// s[g].
     pub sequence_numbers: [u16; GROUPS],
+    /// The order number that its multicast carried; 0 is no order.
+    pub order: u16,
 }
 
 #[derive(Clone, Copy, Debug, PartialEq, Eq, PartialOrd, Ord)]

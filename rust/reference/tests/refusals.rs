@@ -44,7 +44,7 @@ fn refusal_4() {
     refused(world, &[2, 3, 0, 0, 0, 0, 0, 0], Refusal::Form);
     refused(world, &[3, 255, 0, 0, 1, 0, 0, 0], Refusal::Form);
     let steps = [multicast(0, 1), arrival(0, 0, 0, 0), loss(0, 0, 0, 1), trust(0, 3), crash(0)];
-    for (step, used) in steps.iter().zip([3, 5, 5, 4, 2]) {
+    for (step, used) in steps.iter().zip([5, 5, 5, 4, 2]) {
         for unused in used..8 {
             let mut damaged = *step;
             damaged[unused] = 1;

@@ -18,5 +18,5 @@ fn stored_outputs() {
             tried += 1;
         }
     }
-    assert!(tried >= 15, "{tried} journals");
+    assert!(tried >= 19, "{tried} journals");
 }

@@ -2,27 +2,15 @@
 
 mod support;
 
-use reference::journal;
 use reference::random::Random;
 use reference::record::{crash, multicast, setup, trust, Record};
 use reference::sample::{self, STORM};
 use reference::settle::Settled;
 use reference::world::World;
-use std::fs;
-use std::path::Path;
 use support::history::History;
-use support::{agreed, logs, BUDGET};
+use support::{agreed, logs, stored, BUDGET};
 
 const NOTHING_MOVES: Settled = Settled { arrivals: 0, done: true };
-
-/// The records of a stored journal.
-fn stored(name: &str) -> Vec<Record> {
-    let path = Path::new(env!("CARGO_MANIFEST_DIR")).join(format!("../../tests/journals/{name}.journal"));
-    let journal = fs::read(path).expect(name);
-    let mut bytes = vec![0; 8 * journal::count(&journal).unwrap()];
-    journal::read(&journal, &mut bytes).unwrap();
-    bytes.chunks(8).map(|record| record.try_into().unwrap()).collect()
-}
 
 /// The world that the records lead to, and whether the trust rule held for them.
 fn run(records: &[Record]) -> (World, bool) {

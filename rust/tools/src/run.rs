@@ -9,10 +9,11 @@ type Messages = u64;
 
 #[derive(Clone, Copy, Debug, PartialEq, Eq)]
 pub enum What {
-    /// A message to the groups of the mask.
+    /// A message to the groups of the mask, with its order number; 0 is no order.
     Multicast {
         message: u8,
         groups: u8,
+        order: u16,
     },
     Arrival,
     Loss,
@@ -128,8 +129,8 @@ impl Recorder {
         let step = Step::from_record(record).expect("a step that was taken");
         let moment = self.moments.len();
         let (process, what) = match step {
-            Step::Multicast { process, groups } => {
-                (process, What::Multicast { message: before.messages() as u8, groups })
+            Step::Multicast { process, groups, order } => {
+                (process, What::Multicast { message: before.messages() as u8, groups, order })
             }
             Step::Arrival(letter) => (letter.to, What::Arrival),
             Step::Loss(letter) => (letter.to, What::Loss),

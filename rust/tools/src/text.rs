@@ -3,6 +3,7 @@
 //! ```text
 //! setup groups 0 1 2              the groups of process 0, 1 and 2
 //! multicast 0 to 1 2              process 0 multicasts to groups 1 and 2
+//! multicast 0 to 2 order 1017     process 0 multicasts to group 2, with order number 1017
 //! arrival first 1 from 0 to 2     a letter (first, relay or ok) of message 1 arrives
 //! loss ok 1 from 0 to 2           a letter is lost
 //! trust 2 in 0 1                  process 2 trusts processes 0 and 1, and no others
@@ -10,8 +11,9 @@
 //! bytes 09 00 00 00 00 00 00 00   a record that is none of these
 //! ```
 //!
-//! An empty list is written `none`. Every record has one line, and every line is of one record. Between words there may be
-//! more spaces than one; what follows a `#` is a comment; empty lines are left out.
+//! An empty list is written `none`, and order number 0, which is no order, not at all. Every record has one line, and every
+//! line is of one record. Between words there may be more spaces than one; what follows a `#` is a comment; empty lines are
+//! left out.
 
 mod line;
 mod words;

@@ -35,7 +35,7 @@ fn refused(output: Output, status: i32, reason: &str) {
 
 #[test]
 fn text_and_journal_are_each_made_from_the_other() {
-    for name in ["known-1", "known-3", "known-4", "every-step-refused"] {
+    for name in ["known-1", "known-3", "known-4", "every-step-refused", "orders"] {
         let journal = stored(&format!("tests/journals/{name}.journal"));
         let text = stored(&format!("tests/journals/{name}.text"));
         assert_eq!(run(JOURNAL_TEXT, &["to-text"], &journal).stdout, text);

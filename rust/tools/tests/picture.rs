@@ -10,6 +10,7 @@ use support::{root, run_records, stored_journals};
 use tools::names::Names;
 use tools::picture::svg;
 use tools::run::{End, Run, What};
+use tools::text;
 
 const RUNS: u64 = 200;
 
@@ -24,6 +25,19 @@ fn delivered(run: &Run, process: u8, causal: bool) -> Vec<usize> {
         What::Fifo { message } if !causal => Some(message.into()),
         What::Causal { message } if causal => Some(message.into()),
         _ => None,
+    })
+    .collect()
+}
+
+/// The order numbers of the messages, as they were multicast; the engine gives the same.
+fn orders(run: &Run) -> Vec<u16> {
+    let sent = run.moments.iter().filter_map(|moment| match moment.what {
+        What::Multicast { message, order, .. } => Some((message, order)),
+        _ => None,
+    });
+    sent.map(|(message, order)| {
+        assert_eq!(run.world.order(message), Ok(order));
+        order
     })
     .collect()
 }
@@ -49,6 +63,8 @@ fn a_run_is_what_the_second_implementation_says() {
             let waiting = run.waiting.iter().filter(|wait| wait.process == p).count();
             assert_eq!(waiting, process.fifo_log.len() - process.causal_log.len());
         }
+        let messages = &expected.world.messages;
+        assert_eq!(orders(&run), messages.iter().map(|message| message.order).collect::<Vec<_>>());
         let letters = run.world.letters();
         let letters =
             letters.iter().map(|l| (l.message.into(), l.kind.number().into(), l.from.into(), l.to.into()));
@@ -73,11 +89,48 @@ fn a_picture_shows_every_letter_delivery_and_wait() {
         assert_eq!(shown("stroke-opacity=\"0.6\""), number(&run, |end| end == End::InFlight));
         assert_eq!(shown("waits for"), run.waiting.len() + 1);
         assert_eq!(shown(">refused "), run.refused);
+        assert_eq!(shown(">order "), orders(&run).iter().filter(|&&order| order != 0).count());
         let deliveries =
             run.moments.iter().filter(|m| matches!(m.what, What::Fifo { .. } | What::Causal { .. }));
         assert_eq!(shown("width=\"22.0\" height=\"20.0\""), deliveries.count() + 2);
         assert_eq!(shown(">process "), run.groups.len());
     }
+}
+
+/// Where in the picture a text stands, by its words.
+fn place(picture: &str, words: &str) -> (f64, f64) {
+    let (before, _) = picture.split_once(&format!(">{words}</text>")).expect(words);
+    let (_, element) = before.rsplit_once("<text ").expect("its element");
+    let number = |name: &str| {
+        let (_, value) = element.split_once(&format!("{name}=\"")).expect(name);
+        value.split('"').next().unwrap().parse().expect("a number")
+    };
+    (number("x"), number("y"))
+}
+
+#[test]
+fn an_order_number_stands_over_its_messages_sending() {
+    let journal = fs::read(root().join("tests/journals/orders.journal")).unwrap();
+    let run = Run::of_journal(&journal).unwrap();
+    assert_eq!(orders(&run), [1_017, 65_535, 256, 0]);
+    let picture = svg(&run, &Names::none());
+    for (order, groups) in [("order 1017", "to group 2"), ("order 65535", "to group 1")] {
+        let ((x, y), (x_below, y_below)) = (place(&picture, order), place(&picture, groups));
+        assert_eq!((x, y), (x_below, y_below - 13.0), "{order}");
+        assert!(y_below < place(&picture, "process 0").1);
+    }
+    assert!(!picture.contains(">order 0<"));
+}
+
+#[test]
+fn words_over_a_line_stand_above_what_waits_there() {
+    let mut text = fs::read_to_string(root().join("tests/journals/known-3-waiting.text")).unwrap();
+    text += "multicast 2 to 0 order 1018\n";
+    let journal = journal::from_records(&text::to_records(&text).unwrap()).unwrap();
+    let picture = svg(&Run::of_journal(&journal).unwrap(), &Names::none());
+    let [order, groups, waits] =
+        ["order 1018", "to group 0", "2 waits"].map(|words| place(&picture, words).1);
+    assert!(order + 12.0 < groups && groups + 12.0 < waits, "{order}, {groups}, {waits}");
 }
 
 #[test]

@@ -34,6 +34,16 @@ fn any_list(random: &mut Random, limit: usize) -> String {
     }
 }
 
+/// What follows the groups of a multicast: nothing, or an order number.
+fn any_order(random: &mut Random) -> String {
+    match random.below(4) {
+        0 => " order 65535".to_string(),
+        1 => format!(" order {}", random.between(1, 300)),
+        2 => format!(" order {}", random.between(1, 65_535)),
+        _ => String::new(),
+    }
+}
+
 /// A line as the text's rules allow it, made without the tools.
 fn any_line(random: &mut Random, first: bool) -> String {
     let number = |random: &mut Random| if random.one_in(2) { random.below(17) } else { random.below(256) };
@@ -44,7 +54,7 @@ fn any_line(random: &mut Random, first: bool) -> String {
         return format!("setup groups {}", groups.join(" "));
     }
     match random.below(6) {
-        0 => format!("multicast {a} to {}", any_list(random, 8)),
+        0 => format!("multicast {a} to {}{}", any_list(random, 8), any_order(random)),
         1 => format!("arrival {kind} {a} from {b} to {c}"),
         2 => format!("loss {kind} {a} from {b} to {c}"),
         3 => format!("trust {a} in {}", any_list(random, 16)),
@@ -144,12 +154,24 @@ const BAD_LINES: &[(&str, &str)] = &[
     ("multicast 0 to 2 1", "numbers rise, but 2 stands before 1"),
     ("multicast 0 to 1 1", "numbers rise, but 1 stands before 1"),
     ("multicast 0 to none 1", "the line should end before '1'"),
+    ("multicast 0 to order 5", "a group is a number from 0 to 7, not 'order'"),
+    ("multicast 0 to 2 order", "the line ends where an order should follow"),
+    ("multicast 0 to 2 order 0", "an order is a number from 1 to 65535, not '0'"),
+    ("multicast 0 to 2 order 65536", "an order is a number from 1 to 65535, not '65536'"),
+    ("multicast 0 to 2 order 01017", "an order is a number from 1 to 65535, not '01017'"),
+    ("multicast 0 to 2 order none", "an order is a number from 1 to 65535, not 'none'"),
+    ("multicast 0 to 2 order 1 2", "the line should end before '2'"),
+    ("multicast 0 to 2 order 1 order 1", "the line should end before 'order'"),
+    ("multicast 0 order 5 to 2", "'to' should stand where 'order' stands"),
+    ("multicast 0 to 2 Order 5", "the line should end before 'Order'"),
+    ("trust 0 in 1 order 5", "the line should end before 'order'"),
     ("trust 0 in 16", "a process is a number from 0 to 15, not '16'"),
     ("arrival third 0 from 0 to 1", "a letter is first, relay or ok, not 'third'"),
     ("loss ok 0 from 0", "the line ends where 'to' should follow"),
     ("bytes 09 00", "the line ends where the next of eight bytes should follow"),
     ("bytes 0A 00 00 00 00 00 00 00", "a byte is two digits of 0 to 9 and a to f, not '0A'"),
     ("bytes 01 00 04 00 00 00 00 00", "these bytes are written 'multicast 0 to 2'"),
+    ("bytes 01 00 04 f9 03 00 00 00", "these bytes are written 'multicast 0 to 2 order 1017'"),
     ("bytes 09 00 00 00 00 00 00 00 00", "the line should end before '00'"),
 ];
 
@@ -162,6 +184,24 @@ fn bad_lines_are_refused_with_number_and_reason() {
     for (bad, reason) in BAD_LINES {
         let text = format!("setup groups 0 1\n\ncrash 0\n{bad}\ncrash x\n");
         assert_eq!(to_records(&text), fault(4, reason), "{text}");
+    }
+}
+
+/// Lines with order numbers, and the bytes of each: the low byte of a number comes first.
+#[test]
+fn an_order_number_is_bytes_3_and_4() {
+    let lines = [
+        ("multicast 0 to 2 order 1017", [1, 0, 4, 0xF9, 3, 0, 0, 0]),
+        ("multicast 1 to 0 1 order 1", [1, 1, 3, 1, 0, 0, 0, 0]),
+        ("multicast 255 to none order 256", [1, 255, 0, 0, 1, 0, 0, 0]),
+        ("multicast 0 to 2 order 65535", [1, 0, 4, 255, 255, 0, 0, 0]),
+        ("bytes 01 00 04 f9 03 01 00 00", [1, 0, 4, 0xF9, 3, 1, 0, 0]),
+    ];
+    for (line, bytes) in lines {
+        let text = format!("setup groups 0\n{line}\n");
+        let records = to_records(&text).unwrap();
+        assert_eq!(records[1], bytes, "{line}");
+        assert_eq!(from_records(&records), text);
     }
 }
 
@@ -194,5 +234,5 @@ fn stored_journals_have_their_stored_texts() {
             texts += 1;
         }
     }
-    assert!(texts >= 10, "{texts} texts");
+    assert!(texts >= 14, "{texts} texts");
 }

@@ -1,15 +1,19 @@
 //! A recipe that is overtaken. The office sends the mixers a recipe change (message 0) and the weighbridge a release (1).
 //! The weighbridge acts on the release and calls the batch at the mixers (2). The line from the office to the mixers is
 //! slow, and the call comes before the recipe: the mixer has the call, but does not act on it before the recipe, which
-//! causally precedes it.
+//! causally precedes it. The recipe and the batch are for one sales order, whose number they carry; the release is for
+//! none.
 
 use engine::{LetterKind, Refusal, Step, World};
 
 const NAMES: [&str; 3] = ["office", "weighbridge", "mixer"];
-const BODIES: [&str; 3] = ["the new recipe", "release of order 7", "call for order 7"];
+const BODIES: [&str; 3] = ["the new recipe", "release of lorry 7", "call for the batch"];
 const OFFICE: u8 = 0;
 const WEIGHBRIDGE: u8 = 1;
 const MIXER: u8 = 2;
+/// Order numbers: that of the sales order, and the one that means no order.
+const SALES_ORDER: u16 = 1017;
+const NO_ORDER: u16 = 0;
 
 struct Mill {
     world: World,
@@ -18,9 +22,9 @@ struct Mill {
 }
 
 impl Mill {
-    fn multicast(&mut self, from: u8, group: u8) -> Result<(), Refusal> {
+    fn multicast(&mut self, from: u8, group: u8, order: u16) -> Result<(), Refusal> {
         let message = self.world.messages();
-        self.world.step(Step::multicast(from, &[group])?)?;
+        self.world.step(Step::multicast_with_order(from, &[group], order)?)?;
         println!("{} sends message {message} to group {group}: {}", name(from), BODIES[message]);
         self.act()
     }
@@ -42,7 +46,7 @@ impl Mill {
             let log = self.world.causal_log(machine)?;
             let acted = &mut self.acted[usize::from(machine)];
             for &message in &log[*acted..] {
-                println!("  {} acts on message {message}: {}", name(machine), BODIES[usize::from(message)]);
+                println!("  {} acts on {}", name(machine), described(&self.world, message as u8)?);
             }
             *acted = log.len();
         }
@@ -75,17 +79,26 @@ fn name(machine: u8) -> &'static str {
     NAMES[usize::from(machine)]
 }
 
+/// A message, with the order that it is for.
+fn described(world: &World, message: u8) -> Result<String, Refusal> {
+    let order = match world.order(message)? {
+        NO_ORDER => String::new(),
+        order => format!(", order {order}"),
+    };
+    Ok(format!("message {message}: {}{order}", BODIES[usize::from(message)]))
+}
+
 fn items(log: &[u16]) -> String {
     log.iter().map(|message| format!(" {message}")).collect()
 }
 
 fn main() -> Result<(), Refusal> {
     let mut mill = Mill { world: World::new(&[0, 1, 2])?, acted: [0; 3] };
-    mill.multicast(OFFICE, 2)?;
-    mill.multicast(OFFICE, 1)?;
+    mill.multicast(OFFICE, 2, SALES_ORDER)?;
+    mill.multicast(OFFICE, 1, NO_ORDER)?;
     mill.arrive(LetterKind::First, 1, OFFICE, WEIGHBRIDGE)?;
     mill.arrive(LetterKind::Ok, 1, WEIGHBRIDGE, WEIGHBRIDGE)?;
-    mill.multicast(WEIGHBRIDGE, 2)?;
+    mill.multicast(WEIGHBRIDGE, 2, SALES_ORDER)?;
     mill.arrive(LetterKind::First, 2, WEIGHBRIDGE, MIXER)?;
     mill.arrive(LetterKind::Ok, 2, MIXER, MIXER)?;
     mill.print_letters();

@@ -22,12 +22,10 @@ zeros-requires c κs = search needs
 
 returns : tie.Need-returns
 returns c =
-    let k = c .before .before .before .before in
-    let s = k .before in
+    let s = c .before .before .before .before .before in
     let a = s .args in
     quiet-law (a .w .now) (a .m) (a .n) (a .count) (a .limits .now) (a .addressees .now) (s .pre .0)
-    (s .pre .1) (λ j. omega (arith, k .shared-slice-known .given j)) (sym (c .before .zeros .ensures)
-    ∙ c .if1 .taken)
+    (s .pre .1) (sym (c .before .zeros .ensures) ∙ c .if1 .taken)
 
 mul-to : tie.Need-mul-to
 mul-to c = search needs

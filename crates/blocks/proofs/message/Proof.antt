@@ -1,5 +1,4 @@
 -- `blocks::message` meets its contract: the parts of the block, side by side. Assumes nothing.
-use native.Mathlib.Omega.{arith}
 use Rattle.blocks.specs.Message.{message-law}
 use borrow.Author.Needs.{needs}
 use Rattle.blocks.proofs.message.Statement.{statement}
@@ -20,36 +19,14 @@ within-requires c κs = search needs
 flight-requires : tie.Need-flight-requires
 flight-requires c κs = search needs
 
-add-result : tie.Need-add-result
-add-result c = search needs
-
-mul-result : tie.Need-mul-result
-mul-result c = search needs
-
-shared-slice-read-result : tie.Need-shared-slice-read-result
-shared-slice-read-result c = search needs
-
 returns : tie.Need-returns
 returns c =
-    let f = c .before in
-    let i = f .before in
-    let k = i .before .before .before in
-    let s = k .before in
+    let i = c .before in
+    let s = i .before .before .before .before in
     let a = s .args in
-    rw (i .within .ensures, f .flight .ensures)
+    rw (i .within .ensures, c .flight .ensures)
     (message-law (a .w .now) (a .m) (a .n) (a .count) (a .limits .now) (a .addressees .now) (s .pre .0)
-    (s .pre .1) (λ j. omega (arith, k .shared-slice-known .given j)))
+    (s .pre .1))
 
 pub message-spec : {M : Type 1} → statement M
-message-spec =
-    tie.close
-    (tie.spec
-    mul-at
-    add-at
-    add-within
-    within-requires
-    flight-requires
-    add-result
-    mul-result
-    shared-slice-read-result
-    returns)
+message-spec = tie.close (tie.spec mul-at add-at add-within within-requires flight-requires returns)

@@ -51,7 +51,7 @@ send-requires c κs =
       omega (arith, v .word .ensures, b .pre .2),
       omega arith,
       bounds-words (o .enter .last .0) _ (o .enter .ensures .1 (copy-state r) (copy-words r))
-          (bounds-message (view (a .w .now)) (a .p) (a .groups) (v .word .result) (b .pre .1) (b .pre .2)
+          (bounds-message (view (a .w .now)) (a .p) (a .groups) (a .order) (v .word .result) (b .pre .1) (b .pre .2)
           (b .pre .3)),
     )
 
@@ -65,7 +65,7 @@ returns c =
     let o1 = o2 .before .before .before .before in
     let b = o1 .before .before .before .before .before in
     let a = b .args in
-    multicast-law (a .w .now) _ _ _ (a .p) (a .groups) (b .pre .0) (o1 .before .before .word .ensures)
+    multicast-law (a .w .now) _ _ _ (a .p) (a .groups) (a .order) (b .pre .0) (o1 .before .before .word .ensures)
     (o1 .raise .ensures .1) (o2 .enter .ensures .1) (o3 .send .ensures .1)
 
 pub send-new-spec : {M : Type 1} → statement M

@@ -31,12 +31,12 @@ said : (c : tie.After-of-process)
 said c = rw (c .before .is-good-mask .ensures) at (c .of-process .ensures)
 
 returns : tie.Need-returns
-returns c =
+returns c o =
     let x = c .before .r .given in
-    let o = c .before .before .before in
-    let a = o .before .before .before .args in
-    front-refused _ (x .0 .0) (x .1) (said o)
-    ∙ multicast-front (view (a .w .now)) (a .p) (a .groups)
+    let y = c .before .before .before in
+    let a = y .before .before .before .args in
+    front-refused _ (x .0 .0) (x .1) (said y)
+    ∙ multicast-front (view (a .w .now)) (a .p) (a .groups) o
 
 enum-told : tie.Need-enum-told
 enum-told c = search needs
@@ -45,25 +45,26 @@ word-requires : tie.Need-word-requires
 word-requires c κs = search needs
 
 -- they are not refused, and the room decides
-room : (c : tie.After-enum-told) {x : ℕ}
+room : (c : tie.After-enum-told) {x : ℕ} (o : ℕ)
     → let a = c .before .before .before .before .before .args in
-    x ≡ test 10 (ltb (view (a .w .now) count) 64) 0 → x ≡ refusal (view (a .w .now)) (multicasts (a .p) (a .groups))
-room c e =
-    let o = c .before .before in
-    let a = o .before .before .before .args in
-    front-taken _ (c .enum-told .given .1) (said o) e
-    ∙ multicast-front (view (a .w .now)) (a .p) (a .groups)
+    x ≡ test 10 (ltb (view (a .w .now) count) 64) 0
+    → x ≡ refusal (view (a .w .now)) (multicasts (a .p) (a .groups) o)
+room c o e =
+    let y = c .before .before in
+    let a = y .before .before .before .args in
+    front-taken _ (c .enum-told .given .1) (said y) e
+    ∙ multicast-front (view (a .w .now)) (a .p) (a .groups) o
 
 returns-2 : tie.Need-returns-2
-returns-2 c =
+returns-2 c o =
     let a = c .before .before .before .before .before .before .before .args in
-    room (c .before .before)
+    room (c .before .before) o
     (fails 10 0 (le-ltb (view (a .w .now) count) 64 (omega (arith, c .before .word .ensures, c .if1 .taken))))
 
 returns-3 : tie.Need-returns-3
-returns-3 c =
+returns-3 c o =
     let a = c .before .before .before .before .before .before .before .args in
-    room (c .before .before)
+    room (c .before .before) o
     (passes 10 0 (lt-ltb (view (a .w .now) count) 64 (omega (arith, c .before .word .ensures, c .if1 .left))) refl)
 
 pub of-multicast-spec : {M : Type 1} → statement M

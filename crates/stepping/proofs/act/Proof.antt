@@ -16,7 +16,7 @@ send-new-requires c κs =
     let v = c .before .before in
     let b = v .before .before .before in
     let g = v .x .given in
-    can-multicast (b .args .w .now) (b .pre .0) (b .pre .1) (g .0 .0) (g .0 .1 .0)
+    can-multicast (b .args .w .now) (b .pre .0) (b .pre .1) (g .0 .0) (g .0 .1 .0) (g .0 .1 .1 .0)
     (taken-as (view (b .args .w .now)) (g .1) (b .pre .3))
 
 enum-known-x-2 : tie.Need-enum-known-x-2

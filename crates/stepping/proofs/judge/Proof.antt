@@ -49,7 +49,8 @@ enum-told c = search needs
 returns : tie.Need-returns
 returns c =
     let v = c .before .before in
-    judged (view (v .before .before .before .args .w .now)) (v .x .given .1) (c .of-multicast .ensures)
+    judged (view (v .before .before .before .args .w .now)) (v .x .given .1)
+    (c .of-multicast .ensures (v .x .given .0 .1 .1 .0))
 
 returns-2 : tie.Need-returns-2
 returns-2 c =

@@ -44,6 +44,40 @@ pub fn log(words: &Lent<u16>, process: u32, causal: bool, tally: &mut Tally) -> 
     }
 }
 
+/// The order number of a message, on lent words that need not be sound.
+pub fn order(words: &Lent<u16>, message: u32, tally: &mut Tally) -> Compared {
+    let lent = words.clone();
+    let right = second::order(words.part(), message as usize);
+    same_order(&lent, message, right, tally)?;
+    lent.same(words, "order: world")
+}
+
+/// The order number of every message of a world, and the refusal of the next and of others beyond.
+pub fn orders(world: &World, words: &Lent<u16>, tally: &mut Tally) -> Compared {
+    for message in (0..=world.messages.len() as u32).chain([64, 255, u32::MAX]) {
+        let kept = world.messages.get(message as usize);
+        same_order(words, message, kept.map(|kept| kept.order).ok_or(Refusal::NoMessage), tally)?;
+    }
+    Ok(())
+}
+
+/// The archive gives this number, or this refusal and leaves the lent number as it was.
+fn same_order(words: &Lent<u16>, message: u32, right: Result<u16, Refusal>, tally: &mut Tally) -> Compared {
+    let before = 0xA5A5_5A5A;
+    let mut given = before;
+    let answer = raw::order(words.part(), message, &mut given);
+    let call = match right {
+        Ok(0) => "order, none",
+        Ok(_) => "order, a number",
+        Err(_) => "order",
+    };
+    tally.answer(call, number(&right));
+    same("order: answer", answer, number(&right))?;
+    same("order: lent number", given, right.map_or(before, u32::from))?;
+    let wrapped = archive::order(words.part(), message).map_err(|refusal| refusal.number());
+    same("order: wrapper", wrapped, right.map_err(Refusal::number))
+}
+
 /// A step on lent words that need not be sound.
 pub fn step(words: &Lent<u16>, step: &[u8], random: &mut Random, tally: &mut Tally) -> Compared {
     let step = Lent::holding(random, step);
@@ -60,9 +94,13 @@ pub fn step(words: &Lent<u16>, step: &[u8], random: &mut Random, tally: &mut Tal
 /// A step in a list of steps: the words go on with the world.
 pub fn step_on(world: &mut World, words: &mut Lent<u16>, step: &[u8], tally: &mut Tally) -> Compared {
     let mut expected = words.clone();
+    let next = world.messages.len();
     let answer = archive::step(words.part_mut(), step).map_err(|refusal| refusal.number());
     let right = world.step(step);
     tally.answer("step", number(&right));
+    if world.messages.get(next).map_or(false, |message| message.order != 0) {
+        tally.cover("order number multicast", next);
+    }
     same("step: answer", answer, right.map_err(Refusal::number))?;
     expected.part_mut().copy_from_slice(&encode(world));
     words.same(&expected, "step: world")

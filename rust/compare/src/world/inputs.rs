@@ -52,8 +52,9 @@ pub fn length(random: &mut Random, wrong: usize) -> usize {
     }
 }
 
+/// Some word that is not this one.
 pub fn other_word(random: &mut Random, word: u16) -> u16 {
-    match random.below(8) {
+    let other = match random.below(8) {
         0 => word.wrapping_add(1),
         1 => word.wrapping_sub(1),
         2 | 3 => word ^ 1 << random.below(16),
@@ -61,6 +62,21 @@ pub fn other_word(random: &mut Random, word: u16) -> u16 {
         5 => random.below(66) as u16,
         6 => 0xFFFF,
         _ => random.next() as u16,
+    };
+    if other == word {
+        word ^ 1
+    } else {
+        other
+    }
+}
+
+/// A message to ask for: one of these words, the next, or one far beyond.
+pub fn message(random: &mut Random, words: &[u16]) -> u32 {
+    let count = words.get(1).map_or(0, |&count| u32::from(count));
+    match random.below(8) {
+        0 => count,
+        1 => random.pick(&[63, 64, 255, u32::MAX]),
+        _ => random.below(count as usize + 1) as u32,
     }
 }
 
@@ -71,7 +87,7 @@ pub fn any_step(random: &mut Random) -> Vec<u8> {
     match random.below(6) {
         0 => vec![2, kind, operands[0], operands[1], operands[2], 0, 0, 0],
         1 => vec![3, kind, operands[0], operands[1], operands[2], 0, 0, 0],
-        2 => record::multicast(operands[1].into(), operands[2]).to_vec(),
+        2 => record::multicast_with_order(operands[1].into(), operands[2], sample::order(random)).to_vec(),
         3 => record::trust(operands[1].into(), random.next() as u16).to_vec(),
         4 => record::crash(operands[0].into()).to_vec(),
         _ => random.bytes(8),

@@ -8,6 +8,8 @@ use reference::journal;
 use reference::record::{self, Record};
 use reference::world::{Kind, Letter, World};
 use reference::Refusal;
+use std::fs;
+use std::path::Path;
 
 pub fn letter(kind: usize, message: usize, from: usize, to: usize) -> Letter {
     Letter { message, kind: [Kind::First, Kind::Relay, Kind::Ok][kind], from, to }
@@ -59,6 +61,15 @@ pub fn agreed(world: &World) -> bool {
         let lacks = |q: usize| world.processes[q].up && world.is_addressee(m, q) && !in_fifo(q, m);
         !owed || !processes.clone().any(lacks)
     })
+}
+
+/// The records of a stored journal.
+pub fn stored(name: &str) -> Vec<Record> {
+    let path = Path::new(env!("CARGO_MANIFEST_DIR")).join(format!("../../tests/journals/{name}.journal"));
+    let journal = fs::read(path).expect(name);
+    let mut bytes = vec![0; 8 * journal::count(&journal).unwrap()];
+    journal::read(&journal, &mut bytes).unwrap();
+    bytes.chunks(8).map(|record| record.try_into().unwrap()).collect()
 }
 
 pub fn journal_of(records: &[Record]) -> Vec<u8> {

@@ -17,7 +17,7 @@ pub fn time(canvas: &mut Canvas, run: &Run, places: &Places) {
         let x = places.x(i);
         canvas.text((x, 24.0), GREY, SMALL_MIDDLE, &moment.record.to_string());
         if let What::Refused { .. } = moment.what {
-            canvas.text((x, 40.0), ALARM, SMALL_MIDDLE, &caption(moment.what));
+            caption(moment.what).iter().for_each(|words| canvas.text((x, 40.0), ALARM, SMALL_MIDDLE, words));
         } else {
             canvas.line((x, 30.0), (x, f64::from(places.bottom()) - 20.0), FAINT, "stroke-width=\"1\"");
         }
@@ -66,15 +66,16 @@ pub fn moments(canvas: &mut Canvas, run: &Run, places: &Places) {
         match moment.what {
             What::Multicast { message, .. } => multicast(canvas, at, message),
             What::Arrival => canvas.circle(at, 3.0, INK, INK),
-            What::Loss | What::Refused { .. } => {}
+            What::Loss => {}
+            What::Refused { .. } => continue,
             What::Trust { .. } => trust(canvas, at),
             What::Crash => canvas.cross(at, 8.0, ALARM, 3.5),
             What::Fifo { message } => fifo(canvas, at, message),
             What::Causal { message } => causal(canvas, at, message),
         }
-        let words = caption(moment.what);
-        if !words.is_empty() && !matches!(moment.what, What::Refused { .. }) {
-            canvas.text((at.0, at.1 - 17.0), INK, &format!("{SMALL_MIDDLE} {HALO}"), &words);
+        let style = format!("{SMALL_MIDDLE} {HALO}");
+        for (line, words) in caption(moment.what).iter().enumerate() {
+            canvas.text(places.over(at, moment.process, line), INK, &style, words);
         }
     }
 }

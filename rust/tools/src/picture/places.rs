@@ -10,6 +10,7 @@ use engine::Refusal;
 const LEFT: i32 = 104;
 const TOP: i32 = 96;
 const LINE: i32 = 92;
+/// The height of a band over a line, and of a line of words there.
 const BAND: i32 = 13;
 /// The height of a line of words right of the end.
 pub const WORDS: i32 = 16;
@@ -83,6 +84,13 @@ impl Places {
         self.y(wait.process) - 17.0 - f64::from(BAND) * wait.row as f64
     }
 
+    /// Where a line of the words over a moment stands: above the bands that are there.
+    pub fn over(&self, at: Point, process: u8, line: usize) -> Point {
+        let here = |wait: &&Wait| wait.process == process && wait.from < at.0 && at.0 <= wait.to;
+        let bands = self.waits.iter().filter(here).map(|wait| wait.row + 1).max().unwrap_or(0);
+        (at.0, at.1 - 17.0 - f64::from(BAND) * (bands + line) as f64)
+    }
+
     /// Where the diagram ends and the legend may begin.
     pub fn bottom(&self) -> i32 {
         self.top + (self.lines - 1) * self.line + self.below
@@ -105,14 +113,21 @@ fn bold_width(character: char) -> i32 {
     }
 }
 
-/// The words over a moment.
-pub fn caption(what: What) -> String {
+/// The words over a moment, the lowest line first: an order number stands over the groups.
+pub fn caption(what: What) -> Vec<String> {
     match what {
-        What::Multicast { groups, .. } => format!("to {}", named("group", &members(groups.into()))),
-        What::Trust { trusted } => format!("trusts {}", list(&members(trusted))),
-        What::Crash => "crash".to_string(),
-        What::Refused { refusal } => format!("refused {}", refusal.number()),
-        _ => String::new(),
+        What::Multicast { groups, order, .. } => {
+            let groups = format!("to {}", named("group", &members(groups.into())));
+            if order == 0 {
+                vec![groups]
+            } else {
+                vec![groups, format!("order {order}")]
+            }
+        }
+        What::Trust { trusted } => vec![format!("trusts {}", list(&members(trusted)))],
+        What::Crash => vec!["crash".to_string()],
+        What::Refused { refusal } => vec![format!("refused {}", refusal.number())],
+        _ => Vec::new(),
     }
 }
 
@@ -127,7 +142,8 @@ fn column_width(moment: &Moment) -> i32 {
         What::Arrival => 36,
         _ => 48,
     };
-    least.max(7 * caption(moment.what).len() as i32 + 12)
+    let longest = caption(moment.what).iter().map(|words| words.len()).max();
+    least.max(7 * longest.unwrap_or(0) as i32 + 12)
 }
 
 /// The width of what stands right of the end.

@@ -22,8 +22,9 @@ pub fn print(record: &Record, first: bool) -> String {
 
 fn print_step(step: Step) -> String {
     match step {
-        Step::Multicast { process, groups } => {
-            format!("multicast {process} to {}", list(&members(groups.into())))
+        Step::Multicast { process, groups, order } => {
+            let order = if order == 0 { String::new() } else { format!(" order {order}") };
+            format!("multicast {process} to {}{order}", list(&members(groups.into())))
         }
         Step::Arrival(letter) => format!("arrival {}", print_letter(letter)),
         Step::Loss(letter) => format!("loss {}", print_letter(letter)),
@@ -76,7 +77,9 @@ fn parse_multicast(words: &mut Words) -> Result<Record, String> {
     let process = words.number("a process")?;
     words.expect("to")?;
     let groups = words.set("a group", GROUPS)?;
-    Step::multicast(process, &groups).map(Step::record).map_err(|refusal| refusal.to_string())
+    let order = if words.take("order") { words.long_number("an order")? } else { 0 };
+    let step = Step::multicast_with_order(process, &groups, order);
+    step.map(Step::record).map_err(|refusal| refusal.to_string())
 }
 
 fn parse_trust(words: &mut Words) -> Result<Record, String> {

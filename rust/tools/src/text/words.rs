@@ -1,14 +1,16 @@
 //! The words of a line, taken one by one.
 
+use std::iter::Peekable;
+use std::ops::RangeInclusive;
 use std::str::SplitWhitespace;
 
 pub struct Words<'a> {
-    rest: SplitWhitespace<'a>,
+    rest: Peekable<SplitWhitespace<'a>>,
 }
 
 impl<'a> Words<'a> {
     pub fn new(line: &'a str) -> Words<'a> {
-        Words { rest: line.split_whitespace() }
+        Words { rest: line.split_whitespace().peekable() }
     }
 
     pub fn next(&mut self, what: &str) -> Result<&'a str, String> {
@@ -24,6 +26,11 @@ impl<'a> Words<'a> {
         }
     }
 
+    /// Takes this word if it is the next one, and tells whether it was.
+    pub fn take(&mut self, word: &str) -> bool {
+        self.rest.next_if(|next| *next == word).is_some()
+    }
+
     pub fn end(&mut self) -> Result<(), String> {
         match self.rest.next() {
             None => Ok(()),
@@ -33,19 +40,23 @@ impl<'a> Words<'a> {
 
     /// A number that fits into a byte.
     pub fn number(&mut self, what: &str) -> Result<u8, String> {
-        number(self.next(what)?, what, 256)
+        number(self.next(what)?, what, 0..=255).map(|value| value as u8)
     }
 
-    /// The rest of the line as numbers below a limit; none of them is written 'none'.
+    /// A number that fits into two bytes, and is not 0.
+    pub fn long_number(&mut self, what: &str) -> Result<u16, String> {
+        number(self.next(what)?, what, 1..=65_535)
+    }
+
+    /// Numbers below a limit, up to the end of the line or a word of letters; none of them is written 'none'.
     pub fn numbers(&mut self, what: &str, limit: usize) -> Result<Vec<u8>, String> {
-        let first = self.next(what)?;
-        if first == "none" {
-            self.end()?;
+        if self.take("none") {
             return Ok(Vec::new());
         }
-        let mut numbers = vec![number(first, what, limit)?];
-        for word in &mut self.rest {
-            numbers.push(number(word, what, limit)?);
+        let allowed = 0..=limit as u16 - 1;
+        let mut numbers = vec![number(self.next(what)?, what, allowed.clone())? as u8];
+        while let Some(word) = self.rest.next_if(|word| !word.starts_with(char::is_alphabetic)) {
+            numbers.push(number(word, what, allowed.clone())? as u8);
         }
         Ok(numbers)
     }
@@ -70,12 +81,12 @@ impl<'a> Words<'a> {
     }
 }
 
-/// A number below a limit, without needless zeros before it.
-fn number(word: &str, what: &str, limit: usize) -> Result<u8, String> {
+/// An allowed number, without needless zeros before it.
+fn number(word: &str, what: &str, allowed: RangeInclusive<u16>) -> Result<u16, String> {
     let plain = word.bytes().all(|byte| byte.is_ascii_digit()) && (word == "0" || !word.starts_with('0'));
-    let value = if plain { word.parse::<usize>().ok() } else { None };
+    let value = if plain { word.parse().ok() } else { None };
     match value {
-        Some(value) if value < limit => Ok(value as u8),
-        _ => Err(format!("{what} is a number from 0 to {}, not '{word}'", limit - 1)),
+        Some(value) if allowed.contains(&value) => Ok(value),
+        _ => Err(format!("{what} is a number from {} to {}, not '{word}'", allowed.start(), allowed.end())),
     }
 }

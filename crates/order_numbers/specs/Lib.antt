@@ -1,0 +1,10 @@
+pub mod Erase
+pub mod Bytes
+pub mod Apart
+pub mod Numbers
+pub mod Kept
+pub mod Replays
+pub mod Theorem
+pub mod Places
+pub mod Uses
+pub mod Examples
