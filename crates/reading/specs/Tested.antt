@@ -3,16 +3,16 @@
 use mathlib.Core.Path.{_≡_, refl, sym, ap, _∙_}
 use mathlib.Core.Bool.{Bool, true, false}
 use mathlib.Core.List.{List, []}
-use Prim.Native.Nat.{ℕ, _+_, _≤_, _<_}
+use Prim.Native.Nat.{ℕ, suc, _+_, _≤_, _<_}
 use native.Mathlib.Omega.{arith}
 use lib.Dec.{eqb, ltb}
-use lib.ListN.{length, take, drop}
+use lib.ListN.{length, take, drop, getD}
 use borrow.Author.Tests.{eq-eqb, ne-eqb, lt-ltb, le-ltb, eqb-true, ltb-true}
-use Rattle.definitions.specs.General.{pick, needs, gives, refuses}
-use Rattle.definitions.specs.World.{size, count, order, encode, view, is-process}
+use Rattle.definitions.specs.General.{pick, needs, gives, refuses, reply}
+use Rattle.definitions.specs.World.{size, addr, encode, view}
 use Rattle.definitions.specs.Sound.{sound}
 use Rattle.definitions.specs.Steps.{read, refusal, accepted, step, after}
-use Rattle.definitions.specs.Words.{needs-world, step-words, step-refusal, stepped-words, settle-words, settled-words, settle-reply, log-length, log-start, log-refusal, log-words, length-reply, order-reply, order-refusal}
+use Rattle.definitions.specs.Words.{needs-world, step-words, step-refusal, stepped-words, settle-words, settled-words, settle-reply, log-length, log-start, log-refusal, log-words, length-reply}
 use Rattle.base.specs.Refusals.{needs-none, reply-gives, reply-refuses}
 use Rattle.world.specs.Layout.{encode-view}
 use Rattle.world.specs.SoundLaws.{sound-facts, size-high, count-high, fifo-length-high, causal-length-high}
@@ -85,23 +85,28 @@ pub settle-taken : (w : List ℕ) (b : ℕ) → needs-world w 0 ≡ 0
 unfolding settle-reply settled-words
 settle-taken w b e = (rw e, rw e)
 
--- ---- logs
-pub log-refused : (w : List ℕ) (p : ℕ) (log : Bool) (r : ℕ) → (r ≡ 0 → ⊥) → r ≡ needs-world w 0
-    → (refuses r ≡ length-reply w p log)
-unfolding length-reply log-refusal
-log-refused w p log r n e =
-    let z = e ∙ still-refused w 0 (needs 5 (ltb p (view w size)) 0) (λ q. n (e ∙ q)) in
-    rw (← z, ne-eqb r 0 n)
+-- ---- a process or a message that is named
+-- 1, 2, then n where i is not below the word at a
+abbrev pub present-refusal : List ℕ → ℕ → ℕ → ℕ → ℕ
+present-refusal w a i n = needs-world w (needs n (ltb i (getD w a 0)) 0)
 
-pub log-absent : (w : List ℕ) (p : ℕ) (log : Bool) → needs-world w 0 ≡ 0 → view w size ≤ p
-    → refuses 5 ≡ length-reply w p log
-unfolding length-reply log-refusal
-log-absent w p log e h = rw (still-taken w (needs 5 (ltb p (view w size)) 0) e, le-ltb p (view w size) h)
+pub is-absent : (w : List ℕ) (a i n : ℕ) → needs-world w 0 ≡ 0 → getD w a 0 ≤ i → n ≡ present-refusal w a i n
+is-absent w a i n e h = sym (still-taken w (needs n (ltb i (getD w a 0)) 0) e ∙ rw (le-ltb i (getD w a 0) h))
 
-pub log-there : (w : List ℕ) (p : ℕ) (log : Bool) → needs-world w 0 ≡ 0 → p < view w size
-    → gives (log-length (view w) p log) ≡ length-reply w p log
-unfolding length-reply log-refusal
-log-there w p log e h = rw (still-taken w (needs 5 (ltb p (view w size)) 0) e, lt-ltb p (view w size) h)
+pub is-present : (w : List ℕ) (a i n : ℕ) → needs-world w 0 ≡ 0 → i < getD w a 0 → 0 ≡ present-refusal w a i n
+is-present w a i n e h = sym (still-taken w (needs n (ltb i (getD w a 0)) 0) e ∙ rw (lt-ltb i (getD w a 0) h))
+
+-- what is so where nothing is refused
+pub present : (w : List ℕ) (a i n : ℕ) → present-refusal w a i (suc n) ≡ 0 → SoundWords w × (i < getD w a 0)
+present w a i n e =
+    let z = needs-none 0 (eqb (length w) 20480) _ e in
+    let y = needs-none 1 (sound (view w)) _ (z .1) in
+    let x = needs-none n (ltb i (getD w a 0)) 0 (y .1) in
+    (world-sound w (eqb-true (length w) 20480 (z .0)) (y .0), ltb-true i (getD w a 0) (x .0))
+
+-- a call that is not refused gives its value
+pub not-refused : {A : Type 0} {n : ℕ} {a b : A} → n ≡ 0 → a ≡ b → gives a ≡ reply n b
+not-refused e d = rw (e, d)
 
 -- ---- a log, by its length
 pub log-empty : (w : List ℕ) (p : ℕ) (log : Bool) (n : ℕ) → refuses n ≡ length-reply w p log
@@ -121,12 +126,10 @@ pub logged : (w : List ℕ) (p : ℕ) (log : Bool) (n : ℕ) → gives n ≡ len
 unfolding length-reply log-words log-refusal
 logged w p log n e =
     let r = reply-gives (log-refusal w p) n (log-length (view w) p log) e in
-    let z = needs-none 0 (eqb (length w) 20480) _ (r .0) in
-    let y = needs-none 1 (sound (view w)) _ (z .1) in
-    let x = needs-none 4 (is-process (view w) p) 0 (y .1) in
+    let z = present w (addr size) p 4 (r .0) in
     record {
-      sound-there = world-sound w (eqb-true (length w) 20480 (z .0)) (y .0);
-      process-there = ltb-true p (view w size) (x .0);
+      sound-there = z .0;
+      process-there = z .1;
       items = r .1;
       words = rw (r .0, r .1);
     }
@@ -153,19 +156,3 @@ log-inside w p false n h =
     let a = size-high (view w) s in
     let b : p < 16 = omega (arith, h .process-there) in
     (b, omega (arith, h .items, count-high (view w) s, fifo-length-high (view w) s p b))
-
--- ---- order numbers
-pub order-refused : (w : List ℕ) (m r : ℕ) → (r ≡ 0 → ⊥) → r ≡ needs-world w 0 → refuses r ≡ order-reply w m
-unfolding order-reply order-refusal
-order-refused w m r n e =
-    let z = e ∙ still-refused w 0 (needs 7 (ltb m (view w count)) 0) (λ q. n (e ∙ q)) in
-    rw (← z, ne-eqb r 0 n)
-
-pub order-absent : (w : List ℕ) (m : ℕ) → needs-world w 0 ≡ 0 → view w count ≤ m → refuses 7 ≡ order-reply w m
-unfolding order-reply order-refusal
-order-absent w m e h = rw (still-taken w (needs 7 (ltb m (view w count)) 0) e, le-ltb m (view w count) h)
-
-pub order-there : (w : List ℕ) (m : ℕ) → needs-world w 0 ≡ 0 → m < view w count
-    → gives (view w (order m)) ≡ order-reply w m
-unfolding order-reply order-refusal
-order-there w m e h = rw (still-taken w (needs 7 (ltb m (view w count)) 0) e, lt-ltb m (view w count) h)

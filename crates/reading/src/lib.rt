@@ -5,8 +5,10 @@ use definitions::OrderNumber;
 use definitions::Outcome;
 use definitions::Refusal;
 ghost use mathlib.Core.Path.{_≡_};
+ghost use Prim.Native.Nat.{_<_};
 ghost use Rattle.definitions.specs.Words.{needs-world, log-words, length-reply, order-reply};
-ghost use Rattle.definitions.specs.Answers.{outcome-number, amount-reply, order-number-reply};
+ghost use Rattle.definitions.specs.Answers.{refusal-number, outcome-number, amount-reply, order-number-reply};
+ghost use Rattle.reading.specs.Tested.{present-refusal};
 
 // Whether the words are a sound world: 1, then 2.
 pub fn tested(w: &[u16]) -> Outcome
@@ -21,15 +23,27 @@ pub fn tested(w: &[u16]) -> Outcome
     Outcome::Refused(Refusal::WorldUnsound)
 }
 
+// Whether the words are a sound world, and i is below its word at a, the number of processes or of messages: 1, 2, then
+// the refusal of what is absent.
+fn present(w: &[u16], a: usize, i: usize, absent: Refusal) -> Outcome
+    requires { ⌜ a < 20480 ⌝ }
+    ensures { λ r. ⌜ outcome-number r ≡ present-refusal (now (w .entry)) a i (refusal-number absent) ⌝ }
+{
+    if let Outcome::Refused(r) = tested(w) {
+        return Outcome::Refused(r);
+    }
+    if cells::word(w, a) <= i {
+        return Outcome::Refused(absent);
+    }
+    Outcome::Taken
+}
+
 // The length of the FIFO or the causal log of process p: 1, 2, then 5.
 pub fn log_length(w: &[u16], p: usize, causal: bool) -> Amount
     ensures { λ r. ⌜ amount-reply r ≡ length-reply (now (w .entry)) p causal ⌝ }
 {
-    if let Outcome::Refused(r) = tested(w) {
+    if let Outcome::Refused(r) = present(w, cells::SIZE, p, Refusal::NoProcess) {
         return Amount::Refused(r);
-    }
-    if cells::word(w, cells::SIZE) <= p {
-        return Amount::Refused(Refusal::NoProcess);
     }
     Amount::Is(logs::items(w, p, causal))
 }
@@ -49,11 +63,8 @@ pub fn log(w: &[u16], p: usize, causal: bool) -> &[u16]
 pub fn order(w: &[u16], m: usize) -> OrderNumber
     ensures { λ r. ⌜ order-number-reply r ≡ order-reply (now (w .entry)) m ⌝ }
 {
-    if let Outcome::Refused(r) = tested(w) {
+    if let Outcome::Refused(r) = present(w, cells::COUNT, m, Refusal::NoMessage) {
         return OrderNumber::Refused(r);
-    }
-    if cells::word(w, cells::COUNT) <= m {
-        return OrderNumber::Refused(Refusal::NoMessage);
     }
     OrderNumber::Is(w[cells::MESSAGES + m * cells::MESSAGE + cells::ORDER])
 }
