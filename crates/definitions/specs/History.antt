@@ -9,7 +9,7 @@ use Prim.Native.Nat.{ℕ, zero, suc, _+_, _-_, _<_}
 use lib.ListN.{length}
 use Rattle.definitions.specs.General.{pick, bit}
 use Rattle.definitions.specs.World.{size, count, group, trust, up, causal-length, causal, State}
-use Rattle.definitions.specs.Steps.{Step, multicasts, arrives, loses, trusts, crashes, malformed, read, is-up, accepted, step}
+use Rattle.definitions.specs.Steps.{Step, multicasts, arrives, loses, trusts, crashes, malformed, read, is-up, accepted}
 use Rattle.definitions.specs.Settle.{lowest, settle-from}
 
 -- ---- "Events are accepted multicasts and causal deliveries": p multicast m; p causally delivered m.

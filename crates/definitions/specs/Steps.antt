@@ -2,7 +2,7 @@
 -- state after it: document 01, sections "Steps" and "Refusals". It rests on Machine. Assumes nothing.
 use mathlib.Core.Bool.{Bool, not, _&&_, _||_}
 use mathlib.Core.List.{List}
-use Prim.Native.Nat.{ℕ, _+_, _*_, _^_}
+use Prim.Native.Nat.{ℕ, _^_}
 use lib.Dec.{ltb, eqb}
 use lib.ListN.{length}
 use Rattle.definitions.specs.General.{pick, needs, every, bit, only, byte, low-first}
