@@ -102,7 +102,7 @@ pub record OrderNumbers : Type 0 where
   pub kept : (w setup : List ℕ) (items : List Item) → making-refusal w setup ≡ 0 → (m o : ℕ)
       → (order-reply (run on-words (started-words w setup) items .now) m ≡ gives o)
       ↔ Carries (started-words w setup) items m o
-  -- No step, in any state, looks at a number, and none but a multicast sets one.
+  -- In any state, numbers have no part in what a step is refused for, nor in what it does to anything but numbers.
   pub step-apart : (s : State) (x : Step)
       → (refusal (erased s) (erased-step x) ≡ refusal s x) × (step (erased s) (erased-step x) ≡ erased (step s x))
   -- "a record refused 4 for these bytes alone no longer is": bytes are a step with zeros there exactly as without.

@@ -1,5 +1,5 @@
--- No step looks at an order number, and a multicast alone sets one: a step with zeros on a state with zeros for
--- all of them is the step, erased, at every state. What is erased of a cell depends on that cell alone, so that
+-- Order numbers have no part in what a step does to anything else: a step with zeros on a state with zeros for all
+-- of them is the step, erased, at every state. What is erased of a cell depends on that cell alone, so that
 -- every store and every loop of the machine passes through the erasure. Assumes nothing.
 use mathlib.Core.Path.{_≡_, refl, sym, ap, _∙_, subst, fun-ext}
 use mathlib.Core.Bool.{Bool, true, false}
