@@ -44,8 +44,8 @@
 #include <stdint.h>
 
 /* The version of this header, as text and as the number that wt_version gives. */
-#define WT_VERSION "9.1.0"
-#define WT_VERSION_NUMBER 9001000
+#define WT_VERSION "9.2.0"
+#define WT_VERSION_NUMBER 9002000
 
 #ifdef __cplusplus
 extern "C" {
@@ -101,6 +101,20 @@ uint32_t wt_world_make(uint16_t *world, size_t world_length, const uint8_t *setu
  * Returns 0, or refusal 1, 2, 4 to 12, the lowest that applies. Changes the words of world.
  */
 uint32_t wt_step(uint16_t *world, size_t world_length, const uint8_t *step, size_t step_length);
+
+/*
+ * Shows what a step would do, before it is done: the words that it would leave, and how many deliveries it adds. The
+ * world is left as lent.
+ *   step, step_length       the step, as wt_step takes it
+ *   second, second_length   where the words go that wt_step would leave on a copy of world: WT_WORLD_WORDS words, over
+ *                           whatever they hold
+ *   fifo, causal            where is put how many FIFO and how many causal deliveries the step adds, those of all
+ *                           processes together
+ * Returns 0, or refusal 1 (of world or of second), 2 (of world), 4 to 12, the lowest that applies. Changes the words of
+ * second, *fifo and *causal.
+ */
+uint32_t wt_preview(const uint16_t *world, size_t world_length, const uint8_t *step, size_t step_length,
+                    uint16_t *second, size_t second_length, uint32_t *fifo, uint32_t *causal);
 
 /*
  * Makes arrivals, each of the lowest letter in flight between two up processes, by message, kind, from, to.
@@ -269,7 +283,7 @@ static inline const char *wt_refusal_sentence(uint32_t number) {
 /*
  * Setup records and steps, written into 8 bytes. No number is cut: where one has no place in the record, the function
  * returns the refusal that is meant for it, the lowest that applies, and leaves no step there but 8 zeros, which every
- * world refuses. What has a place is judged by wt_world_make and wt_step.
+ * world refuses. What has a place is judged by wt_world_make, wt_step and wt_preview.
  */
 
 /* The mask of one group, and of one process; masks are joined by |. Above 62 it is a bit that no record has. */

@@ -3,7 +3,7 @@
  * The weighbridge acts on the release and calls the batch at the mixers (2). The line from the office to the mixers is
  * slow, and the call comes before the recipe: the mixer has the call, but does not act on it before the recipe, which
  * causally precedes it. The recipe and the batch are for one sales order, whose number they carry; the release is for
- * none.
+ * none. Before the last letter of the call and that of the recipe arrive, previews show what each would do.
  *
  * cc -Idist samples/overtaken.c dist/libengine.a -o overtaken && ./overtaken
  */
@@ -15,6 +15,7 @@ enum { OFFICE, WEIGHBRIDGE, MIXER, MACHINES };
 
 static const char *const names[MACHINES] = {"office", "weighbridge", "mixer"};
 static const char *const bodies[] = {"the new recipe", "release of lorry 7", "call for the batch"};
+static const char *const kinds[] = {"first letter", "relay", "OK"};
 
 /* Order numbers: that of the sales order, and the one that means no order. */
 enum { NO_ORDER = 0, SALES_ORDER = 1017 };
@@ -30,11 +31,11 @@ static void check(uint32_t answer) {
     }
 }
 
-/* The log of a machine, with its length. */
-static const uint16_t *log_of(uint32_t machine, bool causal, uint32_t *items) {
+/* The log of a machine in these words, with its length. */
+static const uint16_t *log_of(const uint16_t *words, uint32_t machine, bool causal, uint32_t *items) {
     uint32_t start = 0;
-    check(wt_world_log(world, WT_WORLD_WORDS, machine, causal, &start, items));
-    return world + start;
+    check(wt_world_log(words, WT_WORLD_WORDS, machine, causal, &start, items));
+    return words + start;
 }
 
 /* A message, with the order that it is for. */
@@ -50,7 +51,7 @@ static void print_message(uint32_t message) {
 static void act(void) {
     uint32_t machine, items;
     for (machine = 0; machine < MACHINES; machine++) {
-        const uint16_t *log = log_of(machine, true, &items);
+        const uint16_t *log = log_of(world, machine, true, &items);
         for (; acted[machine] < items; acted[machine]++) {
             printf("  %s acts on ", names[machine]);
             print_message(log[acted[machine]]);
@@ -71,7 +72,6 @@ static void multicast(uint32_t from, uint32_t group, uint32_t order) {
 }
 
 static void arrive(uint32_t kind, uint32_t message, uint32_t from, uint32_t to) {
-    static const char *const kinds[] = {"first letter", "relay", "OK"};
     uint8_t step[WT_RECORD_BYTES];
     check(wt_put_arrival(step, kind, message, from, to));
     check(take(step));
@@ -79,11 +79,31 @@ static void arrive(uint32_t kind, uint32_t message, uint32_t from, uint32_t to) 
     act();
 }
 
-static void print_log(uint32_t machine, bool causal) {
+static void print_log(const uint16_t *words, uint32_t machine, bool causal) {
     uint32_t i, items;
-    const uint16_t *log = log_of(machine, causal, &items);
+    const uint16_t *log = log_of(words, machine, causal, &items);
     printf(" %s", causal ? "causal" : "FIFO");
     for (i = 0; i < items; i++) printf(" %u", (unsigned)log[i]);
+}
+
+static void print_logs_of(const uint16_t *words, uint32_t machine) {
+    printf("%s:", names[machine]);
+    print_log(words, machine, false);
+    printf(";");
+    print_log(words, machine, true);
+    printf("\n");
+}
+
+/* What a letter would do, and the logs that its receiver would have. The world stays as it is. */
+static void preview(uint32_t kind, uint32_t message, uint32_t from, uint32_t to) {
+    static uint16_t second[WT_WORLD_WORDS];
+    uint8_t step[WT_RECORD_BYTES];
+    uint32_t fifo = 0, causal = 0;
+    check(wt_put_arrival(step, kind, message, from, to));
+    check(wt_preview(world, WT_WORLD_WORDS, step, sizeof step, second, WT_WORLD_WORDS, &fifo, &causal));
+    printf("preview: %s of message %u from %s would make %u FIFO and %u causal deliveries, then ", kinds[kind],
+           (unsigned)message, names[from], (unsigned)fifo, (unsigned)causal);
+    print_logs_of(second, to);
 }
 
 /* What the network has still to carry. */
@@ -98,13 +118,7 @@ static void print_letters(void) {
 
 static void print_logs(void) {
     uint32_t machine;
-    for (machine = 0; machine < MACHINES; machine++) {
-        printf("%s:", names[machine]);
-        print_log(machine, false);
-        printf(";");
-        print_log(machine, true);
-        printf("\n");
-    }
+    for (machine = 0; machine < MACHINES; machine++) print_logs_of(world, machine);
 }
 
 int main(void) {
@@ -126,10 +140,12 @@ int main(void) {
     arrive(WT_LETTER_OK, 1, WEIGHBRIDGE, WEIGHBRIDGE);
     multicast(WEIGHBRIDGE, 2, SALES_ORDER);
     arrive(WT_LETTER_FIRST, 2, WEIGHBRIDGE, MIXER);
+    preview(WT_LETTER_OK, 2, MIXER, MIXER);
     arrive(WT_LETTER_OK, 2, MIXER, MIXER);
     print_letters();
     print_logs();
     arrive(WT_LETTER_FIRST, 0, OFFICE, MIXER);
+    preview(WT_LETTER_OK, 0, MIXER, MIXER);
     arrive(WT_LETTER_OK, 0, MIXER, MIXER);
     print_logs();
 

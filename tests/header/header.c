@@ -1,12 +1,13 @@
 /*
  * Prints what the header states beside its declarations: sizes, the refusals' words, records written by its
- * functions, and what its functions read from a world. The wrapper's tests hold the wrapper to the same lines.
+ * functions, and what its functions read from a world; and what two previews show. The wrapper's tests hold the
+ * wrapper to the same lines.
  */
 #include <stdio.h>
 #include <string.h>
 #include <wardrobeteal.h>
 
-static uint16_t world[WT_WORLD_WORDS];
+static uint16_t world[WT_WORLD_WORDS], shown[WT_WORLD_WORDS], after[WT_WORLD_WORDS];
 
 static void print_record(const char *what, const uint8_t *record) {
     int i;
@@ -105,6 +106,26 @@ static void print_messages(void) {
     printf("no such message: %u\n", (unsigned)refused);
 }
 
+/* What a step would do in some words: what it adds, and how many letters are in flight then. */
+static void print_preview(const char *what, const uint16_t *words, const uint8_t *step, uint16_t *second) {
+    struct wt_letter l;
+    uint32_t fifo = 7, causal = 8, cursor = 0, letters = 0;
+    uint32_t answer =
+        wt_preview(words, WT_WORLD_WORDS, step, WT_RECORD_BYTES, second, WT_WORLD_WORDS, &fifo, &causal);
+    while (wt_next_letter(second, &cursor, &l)) letters++;
+    printf("preview of %s: refusal %u, %u FIFO, %u causal, %u letters\n", what, (unsigned)answer, (unsigned)fifo,
+           (unsigned)causal, (unsigned)letters);
+}
+
+/* A letter that would be answered, and then a trust step that would let in two messages. */
+static void print_previews(void) {
+    uint8_t record[WT_RECORD_BYTES];
+    wt_put_arrival(record, WT_LETTER_FIRST, 0, 0, 1);
+    print_preview("arrival first 0 from 0 to 1", world, record, shown);
+    wt_put_trust(record, 1, 0);
+    print_preview("trust 1 in none, after it", shown, record, after);
+}
+
 static uint32_t take(const uint8_t *step) { return wt_step(world, WT_WORLD_WORDS, step, WT_RECORD_BYTES); }
 
 /* Takes the step that was written, and adds to the answers. */
@@ -126,6 +147,7 @@ static void print_world(void) {
     printf("world: %u processes, %u messages\n", (unsigned)wt_processes(world), (unsigned)wt_messages(world));
     print_processes();
     print_messages();
+    print_previews();
     print_letters();
 }
 

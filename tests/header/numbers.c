@@ -1,19 +1,25 @@
 /*
  * Numbers that have no place in a record. The functions that write records refuse them and leave no step: whoever
  * takes the record all the same is refused, and the world stays as it was, though a step stood in the record before.
- * And order numbers that are asked for and refused: the number that was lent stays as it was.
+ * And order numbers and previews that are asked for and refused: what was lent stays as it was.
  */
 #include <stdio.h>
 #include <string.h>
 #include <wardrobeteal.h>
 
 static uint16_t world[WT_WORLD_WORDS], before[WT_WORLD_WORDS];
+/* The second slice of a preview, with a word to spare, and what it held. */
+static uint16_t second[WT_WORLD_WORDS + 1], held[WT_WORLD_WORDS + 1];
 static uint8_t record[WT_RECORD_BYTES];
 
 /* A record in which a step stands that the world would take. */
 static uint8_t *used(void) {
     wt_put_multicast(record, 0, WT_GROUP(1));
     return record;
+}
+
+static const char *state(const void *was, const void *is, size_t size) {
+    return memcmp(was, is, size) == 0 ? "as it was" : "changed";
 }
 
 /* What writing a step answered, and what comes of taking the record all the same. */
@@ -23,8 +29,35 @@ static void print_step(const char *what, uint32_t put) {
     memcpy(before, world, sizeof world);
     taken = wt_step(world, WT_WORLD_WORDS, record, sizeof record);
     printf("%s: refusal %u, record %s, taken all the same: refusal %u, world %s\n", what, (unsigned)put,
-           sum == 0 ? "zeros" : "written", (unsigned)taken,
-           memcmp(before, world, sizeof world) == 0 ? "as it was" : "changed");
+           sum == 0 ? "zeros" : "written", (unsigned)taken, state(before, world, sizeof world));
+}
+
+/* What the preview of the step in the record answered, with so many words of the world and the second slice lent. */
+static void print_preview(const char *what, size_t words, size_t second_words) {
+    uint32_t fifo = 7, causal = 8, answer;
+    memset(second, 0x5A, sizeof second);
+    memcpy(held, second, sizeof second);
+    memcpy(before, world, sizeof world);
+    answer = wt_preview(world, words, record, sizeof record, second, second_words, &fifo, &causal);
+    printf("preview of %s: refusal %u, numbers %u %u, second slice %s, world %s\n", what, (unsigned)answer,
+           (unsigned)fifo, (unsigned)causal, state(held, second, sizeof second), state(before, world, sizeof world));
+}
+
+/* Previews in a world without messages, and when words are cut, too many, or those of no world. */
+static void print_previews(void) {
+    used();
+    print_preview("multicast 0 to 1", WT_WORLD_WORDS, WT_WORLD_WORDS);
+    print_preview("it, world a word too short", WT_WORLD_WORDS - 1, WT_WORLD_WORDS);
+    print_preview("it, second slice a word too short", WT_WORLD_WORDS, WT_WORLD_WORDS - 1);
+    print_preview("it, second slice a word too long", WT_WORLD_WORDS, WT_WORLD_WORDS + 1);
+    print_preview("it, second slice empty", WT_WORLD_WORDS, 0);
+    world[WT_PLACE_COUNT] = WT_MESSAGES + 1;
+    print_preview("it in no world", WT_WORLD_WORDS, WT_WORLD_WORDS);
+    print_preview("it in no world, second slice a word too short", WT_WORLD_WORDS, WT_WORLD_WORDS - 1);
+    world[WT_PLACE_COUNT] = 0;
+    wt_put_crash(record, 3);
+    print_preview("crash 3", WT_WORLD_WORDS, WT_WORLD_WORDS);
+    print_preview("crash 3, second slice a word too short", WT_WORLD_WORDS, WT_WORLD_WORDS - 1);
 }
 
 /* What asking for the order number of a message answered, with so many words lent. */
@@ -81,6 +114,7 @@ int main(void) {
     print_step("crash 3", wt_put_crash(used(), 3));
     print_step("trust 0 in 0 15", wt_put_trust(used(), 0, WT_PROCESS(0) | WT_PROCESS(15)));
     print_step("multicast 3 to 1 order 65535", wt_put_multicast_with_order(used(), 3, WT_GROUP(1), 65535));
+    print_previews();
     print_orders();
     print_setup("setup 0 8", wrong, 2);
     print_setup("setup of 17", seventeen, 17);

@@ -22,7 +22,9 @@ use Rattle.base.specs.Bits.{only-cong}
 use Rattle.base.specs.Tabulate.{length-tabulate, getD-tabulate}
 use Rattle.world.specs.Layout.{Within, length-encode, get-encode, encode-ext, part-encode}
 use Rattle.world.specs.SoundLaws.{Sound, size-high, count-high, group-high, sender-high, fifo-length-high, causal-length-high, fifo-high, sound-words, facts-sound}
+use Rattle.world.specs.Calls.{refused-same}
 use Rattle.world.specs.StepLaws.{accepted-multicast, accepted-arrival, accepted-loss, accepted-trust}
+use Rattle.effects.specs.Logs.{log-item}
 use Rattle.carried.specs.Same.{Fits, Agree, same, process-low, message-low, leave-agree, arrival-agree, trust-agree, crash-agree, multicast-agree}
 
 -- ---- refusals
@@ -281,11 +283,6 @@ made-carried w bytes l e =
     ap (λ (n : ℕ). pick (eqb n 0) (encode (made bytes)) w) (making-carried w bytes l ∙ e)
 
 -- ---- the logs
--- item i of the log of p
-abbrev pub log-item : ℕ → Bool → ℕ → Cell
-log-item p true i = causal p i
-log-item p false i = fifo p i
-
 module _ (s : State) (h : Sound s) (p : ℕ) (hp : p < s size) where
   p16 : p < 16
   p16 = omega (arith, size-high s h)
@@ -320,6 +317,16 @@ module _ (s : State) (h : Sound s) (p : ℕ) (hp : p < s size) where
       ap₂ (λ (n l : ℕ). pick (eqb n 0) (take l (drop (log-start p log) (encode s))) []) log-taken
       (read-length log)
       ∙ part log
+
+-- the log of no process
+pub log-absent : (s : State) → Sound s → (p : ℕ) (log : Bool) → is-process s p ≡ false
+    → log-words (encode s) p log ≡ []
+unfolding log-words log-refusal
+log-absent s h p log e =
+    let d : log-refusal (encode s) p ≡ 5 =
+    sound-world s h _ ∙ ap (λ (n : ℕ). needs 5 (ltb p n) 0) (get-encode s size tt)
+    ∙ ap (λ (b : Bool). needs 5 b 0) e in
+    refused-same (log-refusal (encode s) p) _ [] (λ q. omega arith)
 
 -- ---- a log as a list
 pub listed-in : {n m : ℕ} {log : ℕ → ℕ} {xs : List ℕ} → xs ≡ tabulate n log → Listed xs m → In n log m

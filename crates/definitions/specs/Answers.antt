@@ -4,6 +4,7 @@
 use Prim.Native.Nat.{ℕ}
 use Rattle.definitions.specs.General.{Reply, gives, refuses}
 use Rattle.definitions.specs.Settle.{Ending, done, stopped}
+use Rattle.definitions.specs.Words.{NewDeliveries}
 use Rattle.definitions.specs.Replay.{Counts}
 use Rattle.definitions.specs.declared.Refusal.{Refusal}
 use Rattle.definitions.specs.declared.Refusal.the-variants.{WorldLength, WorldUnsound, BadSetup, Malformed, NoProcess, BadMask, NoMessage, BadTrust, Down, Full, NotInFlight, BothUp, JournalLength, WrongCheck, WrongForm, RecordsLength, OutputLength}
@@ -13,6 +14,8 @@ use Rattle.definitions.specs.declared.Amount.{Amount}
 use Rattle.definitions.specs.declared.Amount.the-variants as amount
 use Rattle.definitions.specs.declared.OrderNumber.{OrderNumber}
 use Rattle.definitions.specs.declared.OrderNumber.the-variants as order-number
+use Rattle.definitions.specs.declared.Previewing.{Previewing}
+use Rattle.definitions.specs.declared.Previewing.the-variants as previewing
 use Rattle.definitions.specs.declared.Settling.{Settling}
 use Rattle.definitions.specs.declared.Settling.the-variants as settling
 use Rattle.definitions.specs.declared.Replaying.{Replaying}
@@ -53,6 +56,11 @@ abbrev pub order-number-reply : OrderNumber → Reply ℕ
 order-number-reply (order-number.Is n) = gives n
 order-number-reply (order-number.Refused r) = refuses (refusal-number r)
 
+-- Preview: how many FIFO and how many causal deliveries the step adds, or the refusal.
+abbrev pub previewing-reply : Previewing → Reply NewDeliveries
+previewing-reply (previewing.Adds f c) = gives (record { fifo-number = f; causal-number = c })
+previewing-reply (previewing.Refused r) = refuses (refusal-number r)
+
 -- Settle: the number of arrivals with done or stopped, or the refusal.
 abbrev pub settling-reply : Settling → Reply Ending
 settling-reply (settling.Done n) = gives (done n)
@@ -74,6 +82,6 @@ abbrev pub done-in : Ending → ℕ
 done-in (done n) = 1
 done-in (stopped n) = 0
 
--- The version of the engine, 9.1.0: a million times its first number, a thousand times its second, and its third.
+-- The version of the engine, 9.2.0: a million times its first number, a thousand times its second, and its third.
 abbrev pub version : ℕ
-version = 9001000
+version = 9002000

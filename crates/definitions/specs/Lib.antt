@@ -14,3 +14,4 @@ pub mod Replay
 pub mod Answers
 pub mod Demand
 pub mod OrderNumbers
+pub mod Previews

@@ -4,11 +4,11 @@
 -- Settle and History. Assumes nothing.
 use mathlib.Core.Bool.{Bool, true, false}
 use mathlib.Core.List.{List, []}
-use Prim.Native.Nat.{ℕ}
+use Prim.Native.Nat.{ℕ, zero, suc, _+_, _-_}
 use lib.Dec.{eqb}
 use lib.ListN.{length, take, drop}
 use Rattle.definitions.specs.General.{needs, unless-refused, Reply, reply}
-use Rattle.definitions.specs.World.{fifo-length, causal-length, fifo, causal, order, addr, State, encode, view, is-process, is-message}
+use Rattle.definitions.specs.World.{size, fifo-length, causal-length, fifo, causal, order, addr, State, encode, view, is-process, is-message}
 use Rattle.definitions.specs.Sound.{sound}
 use Rattle.definitions.specs.Setup.{setup-refusal, made}
 use Rattle.definitions.specs.Machine.{arrival}
@@ -81,6 +81,37 @@ order-refusal w m = needs-world w (needs 7 (is-message (view w) m) 0)
 -- "a call returns the order number of a message"
 unfoldable pub order-reply : List ℕ → ℕ → Reply ℕ
 order-reply w m = reply (order-refusal w m) (view w (order m))
+
+-- ---- preview of a step (document 02, card 2): "Preview takes a world, a step and a second slice of world length"
+-- "Refusal 1 covers either slice", and "A step that would be refused gives the same refusal": 2 is of the world only.
+unfoldable pub preview-refusal : List ℕ → List ℕ → List ℕ → ℕ
+preview-refusal w bytes second = needs 1 (eqb (length second) 20480) (step-refusal w bytes)
+
+-- "The second slice then holds exactly what doing the step on a copy would give"; a refusal "leaves the second slice
+-- as lent".
+unfoldable pub previewed-words : List ℕ → List ℕ → List ℕ → List ℕ
+previewed-words w bytes second =
+    unless-refused (preview-refusal w bytes second) (stepped-words w bytes) second
+
+-- By how much the FIFO or the causal logs of the processes below n are longer in t than in s, all together.
+unfoldable pub log-growth : ℕ → Bool → State → State → ℕ
+log-growth zero log s t = 0
+log-growth (suc p) log s t = log-growth p log s t + (log-length t p log - log-length s p log)
+
+-- "how many FIFO and how many causal deliveries the step adds": s is the state before it, t the one after it.
+pub record NewDeliveries : Type 0 where
+  pub fifo-number : ℕ
+  pub causal-number : ℕ
+
+abbrev pub new-deliveries : State → State → NewDeliveries
+new-deliveries s t = record {
+  fifo-number = log-growth (s size) false s t;
+  causal-number = log-growth (s size) true s t;
+}
+
+unfoldable pub preview-reply : List ℕ → List ℕ → List ℕ → Reply NewDeliveries
+preview-reply w bytes second =
+    reply (preview-refusal w bytes second) (new-deliveries (view w) (step (view w) (read bytes)))
 
 -- ---- a list of items on lent words (History): a step or a settle is refused where these are no sound world
 abbrev pub on-words : Engine (List ℕ)

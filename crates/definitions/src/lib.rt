@@ -39,6 +39,12 @@ pub enum OrderNumber {
     Refused(Refusal),
 }
 
+// The answer of a preview: how many FIFO and how many causal deliveries the step adds.
+pub enum Previewing {
+    Adds(u32, u32),
+    Refused(Refusal),
+}
+
 // The answer of settle: all letters that can move have arrived, or the budget is used up and one remains; each with
 // the number of arrivals made.
 pub enum Settling {

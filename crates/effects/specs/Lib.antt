@@ -5,3 +5,4 @@ pub mod Holding
 pub mod Spent
 pub mod Events
 pub mod Runs
+pub mod Logs

@@ -2,12 +2,13 @@
 // what else it answers goes out through a lent number. A refusal leaves everything that was lent as it was.
 use definitions::Amount;
 use definitions::OrderNumber;
+use definitions::Previewing;
 use definitions::Replaying;
 use definitions::Settling;
 ghost use mathlib.Core.Path.{_≡_};
 ghost use lib.ListN.{length};
 ghost use Rattle.definitions.specs.General.{refusal-in, value-in};
-ghost use Rattle.definitions.specs.Words.{making-refusal, made-words, step-refusal, stepped-words, settle-reply, settled-words, log-start, length-reply, order-reply};
+ghost use Rattle.definitions.specs.Words.{making-refusal, made-words, step-refusal, stepped-words, previewed-words, NewDeliveries, preview-reply, settle-reply, settled-words, log-start, length-reply, order-reply};
 ghost use Rattle.definitions.specs.Journal.{needed-reply, write-refusal, written, count-reply, read-refusal, read-out};
 ghost use Rattle.definitions.specs.Replay.{Counts, replay-reply, replayed-words};
 ghost use Rattle.definitions.specs.Answers.{arrivals-in, done-in, version};
@@ -84,6 +85,31 @@ pub extern "C" fn wt_step(w: &mut [u16], step: &[u8]) -> u32
     ensures words { λ _. ⌜ now (w .exit) ≡ stepped-words (now (w .entry)) (now (step .entry)) ⌝ }
 {
     answers::outcome(calls::step(w, step))
+}
+
+// Shows on the second slice what a step would leave, and gives how many FIFO and how many causal deliveries it adds: 0, 1,
+// 2 or 4 to 12.
+#[no_mangle]
+pub extern "C" fn wt_preview(
+    w: &[u16],
+    step: &[u8],
+    second: &mut [u16],
+    fifo: &mut u32,
+    causal: &mut u32,
+) -> u32
+    ensures answer { λ r. ⌜ r ≡ refusal-in (preview-reply (now (w .entry)) (now (step .entry)) (now (second .entry))) ⌝ }
+    ensures words { λ _. ⌜ now (second .exit) ≡ previewed-words (now (w .entry)) (now (step .entry)) (now (second .entry)) ⌝ }
+    ensures fifo { λ _. ⌜ now (fifo .exit) ≡ value-in (λ (d : NewDeliveries). d .fifo-number) (preview-reply (now (w .entry)) (now (step .entry)) (now (second .entry))) (now (fifo .entry)) ⌝ }
+    ensures causal { λ _. ⌜ now (causal .exit) ≡ value-in (λ (d : NewDeliveries). d .causal-number) (preview-reply (now (w .entry)) (now (step .entry)) (now (second .entry))) (now (causal .entry)) ⌝ }
+{
+    match calls::preview(w, step, second) {
+        Previewing::Adds(n, k) => {
+            *fifo = n;
+            *causal = k;
+            0
+        }
+        Previewing::Refused(r) => answers::number(r),
+    }
 }
 
 // Where the FIFO or the causal log of a process stands among the lent words, and its length: 0, 1, 2 or 5.

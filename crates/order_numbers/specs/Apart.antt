@@ -23,7 +23,8 @@ use Rattle.world.specs.Calls.{refused-same}
 use Rattle.world.specs.SettleLaws.{settle, settle-related}
 use Rattle.world.specs.Runs.{on-states, started}
 use Rattle.keeps.specs.Keeps.{run-sound, fresh-sound}
-use Rattle.carried.specs.Calls.{sound-world, refusal-carried, log-item, log-carried}
+use Rattle.effects.specs.Logs.{log-item}
+use Rattle.carried.specs.Calls.{refusal-carried, log-carried, log-absent}
 use Rattle.carried.specs.Carried.{written, reply-carried, run-carried, setup-taken, start-carried}
 use Rattle.order_numbers.specs.Erase.{erased-same, erased-zeros, refusal-erased, step-erased, accepted-erased}
 use Rattle.order_numbers.specs.Bytes.{read-erased}
@@ -113,16 +114,6 @@ words-erased s =
 pub made-zeros : (setup : List ℕ) → erased (made setup) ≡ made setup
 unfolding made fresh
 made-zeros setup = erased-zeros (made setup) (λ m. refl)
-
--- the log of no process
-log-absent : (s : State) → Sound s → (p : ℕ) (log : Bool) → is-process s p ≡ false
-    → log-words (encode s) p log ≡ []
-unfolding log-words log-refusal
-log-absent s h p log e =
-    let d : log-refusal (encode s) p ≡ 5 =
-    sound-world s h _ ∙ ap (λ (n : ℕ). needs 5 (ltb p n) 0) (get-encode s size tt)
-    ∙ ap (λ (b : Bool). needs 5 b 0) e in
-    refused-same (log-refusal (encode s) p) _ [] (λ q. omega arith)
 
 -- the calls on the words of a sound state, and on those with zeros
 module _ (s : State) (h : Sound s) (z : Sound (erased s)) where

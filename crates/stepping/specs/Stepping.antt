@@ -1,6 +1,6 @@
 -- What a taken step may lean on in a sound world, and the words after a step that is taken or refused.
 -- Assumes nothing.
-use mathlib.Core.Path.{_≡_, sym, ap, _∙_}
+use mathlib.Core.Path.{_≡_, sym, ap, _∙_, subst}
 use mathlib.Core.Bool.{Bool}
 use mathlib.Core.List.{List}
 use Prim.Native.Nat.{ℕ, _<_}
@@ -22,6 +22,21 @@ use Rattle.multicasts.specs.Raise.{Low}
 use Rattle.multicasts.specs.Multicast.{sound-low}
 use Rattle.given.specs.declared.Given.{Given}
 use Rattle.given.specs.Given.{step-of}
+use Rattle.stepping.specs.declared.Judged.{Judged}
+use Rattle.stepping.specs.declared.Judged.the-variants as judged
+
+-- ---- what a judged step says of the step y in s: that it is taken, and asked for as x; or its refusal
+abbrev pub Judges : Judged → State → Step → Type 0
+Judges (judged.Taken x) s y = (refusal s y ≡ 0) × (step-of x ≡ y)
+Judges (judged.Refused r) s y = refusal-number r ≡ refusal s y
+
+pub judged-taken : (s : State) (y : Step) {j : Judged} {x : Given} → j ≡ judged.Taken x → Judges j s y
+    → (refusal s y ≡ 0) × (step-of x ≡ y)
+judged-taken s y e h = subst (λ (z : Judged). Judges z s y) e h
+
+pub judged-refused : (s : State) (y : Step) {j : Judged} {r : Refusal} → j ≡ judged.Refused r → Judges j s y
+    → refusal-number r ≡ refusal s y
+judged-refused s y e h = subst (λ (z : Judged). Judges z s y) e h
 
 -- ---- the words
 pub words-taken : (w : List ℕ) (x : Step) → refusal (view w) x ≡ 0
@@ -76,8 +91,8 @@ module _ (w : List ℕ) (l : length w ≡ 20480) (h : Sound (view w)) where
   can-crash p e = (l, process p (accepted-crash s p (eq-eqb _ 0 e) .0))
 
 -- ---- what is so of a kind of step is so of the step that has this kind
-pub judged : {n : ℕ} {x y : Given} (s : State) → x ≡ y → n ≡ refusal s (step-of y) → n ≡ refusal s (step-of x)
-judged s e h = h ∙ ap (λ (z : Given). refusal s (step-of z)) (sym e)
+pub of-kind : {n : ℕ} {x y : Given} (s : State) → x ≡ y → n ≡ refusal s (step-of y) → n ≡ refusal s (step-of x)
+of-kind s e h = h ∙ ap (λ (z : Given). refusal s (step-of z)) (sym e)
 
 pub taken-as : {x y : Given} (s : State) → x ≡ y → refusal s (step-of x) ≡ 0 → refusal s (step-of y) ≡ 0
 taken-as s e h = ap (λ (z : Given). refusal s (step-of z)) (sym e) ∙ h

@@ -12,9 +12,16 @@ ghost use Rattle.definitions.specs.Answers.{outcome-number};
 ghost use Rattle.world.specs.SoundLaws.{Sound};
 ghost use Rattle.quiescence.specs.Quiescent.{AllQuiescentIf};
 ghost use Rattle.given.specs.Given.{step-of};
+ghost use Rattle.stepping.specs.Stepping.{Judges};
+
+// A step that is judged: taken, with what it asks for, or refused.
+pub enum Judged {
+    Taken(Given),
+    Refused(Refusal),
+}
 
 // The refusal of a step, lowest number first, or that it is taken.
-fn judge(w: &[u16], x: Given) -> Outcome
+fn refused(w: &[u16], x: Given) -> Outcome
     requires { ⌜ (length (now w) ≡ 20480) × Sound (view (now w)) ⌝ }
     ensures { λ r. ⌜ outcome-number r ≡ refusal (view (now (w .entry))) (step-of x) ⌝ }
 {
@@ -28,8 +35,20 @@ fn judge(w: &[u16], x: Given) -> Outcome
     }
 }
 
+// The step that the bytes ask for, judged.
+pub fn judge(w: &[u16], bytes: &[u8]) -> Judged
+    requires { ⌜ (length (now w) ≡ 20480) × Sound (view (now w)) ⌝ }
+    ensures { λ r. ⌜ Judges r (view (now (w .entry))) (read (now (bytes .entry))) ⌝ }
+{
+    let x = given::take(bytes);
+    match refused(w, x) {
+        Outcome::Refused(r) => Judged::Refused(r),
+        Outcome::Taken => Judged::Taken(x),
+    }
+}
+
 // What a step does that is taken.
-fn act(w: &mut [u16], x: Given, quiescent: bool)
+pub fn act(w: &mut [u16], x: Given, quiescent: bool)
     requires { ⌜ (length (now w) ≡ 20480) × Sound (view (now w)) × AllQuiescentIf quiescent (view (now w)) × (refusal (view (now w)) (step-of x) ≡ 0) ⌝ }
     ensures { λ _. ⌜ now (w .exit) ≡ encode (stepped (view (now (w .entry))) (step-of x)) ⌝ }
 {
@@ -51,10 +70,9 @@ pub fn step(w: &mut [u16], bytes: &[u8], quiescent: bool) -> Outcome
     ensures answer { λ r. ⌜ outcome-number r ≡ refusal (view (now (w .entry))) (read (now (bytes .entry))) ⌝ }
     ensures words { λ _. ⌜ now (w .exit) ≡ encode (after (view (now (w .entry))) (read (now (bytes .entry)))) ⌝ }
 {
-    let x = given::take(bytes);
-    match judge(w, x) {
-        Outcome::Refused(r) => Outcome::Refused(r),
-        Outcome::Taken => {
+    match judge(w, bytes) {
+        Judged::Refused(r) => Outcome::Refused(r),
+        Judged::Taken(x) => {
             act(w, x, quiescent);
             Outcome::Taken
         }

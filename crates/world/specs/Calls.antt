@@ -1,19 +1,19 @@
--- Small laws of the calls: a refused call leaves the words as they were, and the words of a run of History
--- are what the public calls of Words give in turn. Assumes nothing.
+-- Small laws of the calls: a refused call leaves the words as they were, a preview is refused as the step and shows its
+-- words, and the words of a run of History are what the public calls of Words give in turn. Assumes nothing.
 use mathlib.Core.Path.{_≡_, refl, sym, ap, _∙_}
 use mathlib.Core.Bool.{Bool, true, false, _&&_}
 use mathlib.Core.List.{List, [], _∷_}
 use Prim.Native.Nat.{ℕ}
 use lib.Dec.{eqb}
 use lib.ListN.{length}
-use borrow.Author.Tests.{ne-eqb}
+use borrow.Author.Tests.{eq-eqb, ne-eqb}
 use Rattle.definitions.specs.General.{pick, needs, unless-refused}
 use Rattle.definitions.specs.World.{State, view}
 use Rattle.definitions.specs.Sound.{sound}
 use Rattle.definitions.specs.Steps.{Step, arrives, read, refusal, accepted, step, after}
 use Rattle.definitions.specs.Settle.{lowest, Settled, settle-from}
 use Rattle.definitions.specs.History.{Run, Item, given, settling, taken, tick, settles, act, run}
-use Rattle.definitions.specs.Words.{needs-world, making-refusal, made-words, step-words, step-refusal, stepped-words, settle-words, settled-words, on-words}
+use Rattle.definitions.specs.Words.{needs-world, making-refusal, made-words, step-words, step-refusal, stepped-words, settle-words, settled-words, preview-refusal, previewed-words, on-words}
 use Rattle.world.specs.SettleLaws.{settle-related}
 
 -- ---- a refused call changes nothing
@@ -35,6 +35,26 @@ settle-refused w b h = refused-same (needs-world w 0) _ w h
 pub after-refused : (s : State) (x : Step) → (refusal s x ≡ 0 → ⊥) → after s x ≡ s
 unfolding after
 after-refused s x h = rw (ne-eqb (refusal s x) 0 h)
+
+-- ---- a preview
+module _ (w bytes second : List ℕ) where
+  -- with a second slice as long as a world it is refused as the step, else with 1
+  pub preview-judged : length second ≡ 20480 → preview-refusal w bytes second ≡ step-refusal w bytes
+  unfolding preview-refusal
+  preview-judged l = rw (eq-eqb (length second) 20480 l)
+
+  pub preview-unjudged : (length second ≡ 20480 → ⊥) → preview-refusal w bytes second ≡ 1
+  unfolding preview-refusal
+  preview-unjudged h = rw (ne-eqb (length second) 20480 h)
+
+  -- one that is taken shows the words of the step, one that is refused leaves the second slice
+  pub preview-taken : preview-refusal w bytes second ≡ 0 → previewed-words w bytes second ≡ stepped-words w bytes
+  unfolding previewed-words
+  preview-taken e = rw e
+
+  pub preview-refused : (preview-refusal w bytes second ≡ 0 → ⊥) → previewed-words w bytes second ≡ second
+  unfolding previewed-words
+  preview-refused h = refused-same (preview-refusal w bytes second) (stepped-words w bytes) second h
 
 -- ---- the words of a run
 -- What the calls give in turn.

@@ -1,11 +1,11 @@
 //! The cases: what each makes beforehand, with the second implementation, and the call that it is about.
 
-use crate::sides::Side;
+use crate::sides::{reference_copy, Side};
 use reference::random::Random;
 use reference::record::{self, Record};
 use reference::sample::{self, RACE};
 use reference::world::World;
-use reference::{calls, journal};
+use reference::{calls, journal, sound};
 
 const WORDS: usize = 20_480;
 const LONGEST: usize = 8_064;
@@ -26,6 +26,9 @@ pub fn run(case: &str, side: &Side, processes: usize, messages: usize) -> Option
         }
         "log" => (side.log)(&full(&setup, messages)),
         "order" => order(side, &full(&setup, messages)),
+        "copy" => copy(&full(&setup, messages)),
+        "preview" => preview(side, &setup, messages),
+        "arrival" => arrival(side, &setup, messages),
         "step" => public_steps(side, &setup),
         "settle" => (side.settle)(&mut flying(&setup, messages)) as usize,
         "count" => (side.count)(&run_journal(&setup)),
@@ -73,6 +76,38 @@ fn sound(side: &Side, words: &[u16]) -> usize {
 
 fn order(side: &Side, words: &[u16]) -> usize {
     assert_eq!((side.order)(words), 1_063);
+    1
+}
+
+/// The words of a world, copied.
+fn copy(words: &[u16]) -> usize {
+    let mut to = vec![0; words.len()];
+    reference_copy(words, &mut to);
+    assert_eq!(to, words);
+    words.len()
+}
+
+/// The full world but for its last letter, and the arrival of that one: a FIFO and a causal delivery.
+fn last_letter(setup: &[u8], messages: usize) -> (Vec<u16>, Record) {
+    let mut words = flying(setup, messages);
+    let arrivals = calls::settle(&mut words.clone(), u32::MAX).expect("a sound world").arrivals;
+    calls::settle(&mut words, arrivals - 1).expect("a sound world");
+    let letters = sound::read(&words).expect("a sound world").flight;
+    assert_eq!(letters.len(), 1);
+    let step = record::arrival(*letters.iter().next().expect("a letter"));
+    (words, step)
+}
+
+fn preview(side: &Side, setup: &[u8], messages: usize) -> usize {
+    let (words, step) = last_letter(setup, messages);
+    assert_eq!((side.preview)(&words, &step, &mut [0; WORDS]), (1, 1));
+    1
+}
+
+fn arrival(side: &Side, setup: &[u8], messages: usize) -> usize {
+    let (mut words, step) = last_letter(setup, messages);
+    (side.step)(&mut words, &step);
+    assert_eq!(words, full(setup, messages));
     1
 }
 

@@ -18,6 +18,8 @@ pub struct Side {
     /// The order number of the last message.
     pub order: fn(&[u16]) -> u16,
     pub step: fn(&mut [u16], &[u8]),
+    /// The numbers of FIFO and causal deliveries.
+    pub preview: fn(&[u16], &[u8], &mut [u16]) -> (u32, u32),
     pub settle: fn(&mut [u16]) -> u32,
     pub count: fn(&[u8]) -> usize,
     pub replay: fn(&mut [u16], &[u8]) -> u32,
@@ -31,6 +33,10 @@ pub const ARCHIVE: Side = Side {
     step: |words, step| {
         let _ = engine::world::step(words, step);
     },
+    preview: |words, step, second| {
+        let adds = engine::world::preview(words, step, second).expect("a step that is taken");
+        (adds.fifo, adds.causal)
+    },
     settle: |words| engine::world::settle(words, u32::MAX).expect("a sound world").arrivals,
     count: |bytes| engine::journal::count(bytes).expect("a good journal"),
     replay: |words, bytes| engine::world::replay(words, bytes).expect("a good journal").steps,
@@ -42,6 +48,7 @@ pub const REFERENCE: Side = Side {
     log: reference_log,
     order: reference_order,
     step: reference_step,
+    preview: reference_preview,
     settle: reference_settle,
     count: reference_count,
     replay: reference_replay,
@@ -77,10 +84,24 @@ pub fn reference_order(words: &[u16]) -> u16 {
     calls::order(words, LAST).expect("a full world")
 }
 
+/// A copy by memcpy, which the mark of a preview has in it.
+#[no_mangle]
+#[inline(never)]
+pub fn reference_copy(words: &[u16], to: &mut [u16]) {
+    to.copy_from_slice(words);
+}
+
 #[no_mangle]
 #[inline(never)]
 pub fn reference_step(words: &mut [u16], step: &[u8]) {
     let _ = calls::step(words, step);
+}
+
+#[no_mangle]
+#[inline(never)]
+pub fn reference_preview(words: &[u16], step: &[u8], second: &mut [u16]) -> (u32, u32) {
+    let adds = calls::preview(words, step, second).expect("a step that is taken");
+    (adds.fifo, adds.causal)
 }
 
 #[no_mangle]

@@ -34,7 +34,7 @@ struct Area {
     weight: u64,
 }
 
-const AREAS: [Area; 6] = [
+const AREAS: [Area; 7] = [
     Area { name: "journal", input: journal::input, answers: journal::ANSWERS, cover: &[], weight: 1 },
     Area { name: "world", input: world::input, answers: world::ANSWERS, cover: world::COVER, weight: 50 },
     Area {
@@ -42,6 +42,13 @@ const AREAS: [Area; 6] = [
         input: world::steps,
         answers: world::STEP_ANSWERS,
         cover: world::STEP_COVER,
+        weight: world::STEPS,
+    },
+    Area {
+        name: "preview",
+        input: world::previews,
+        answers: world::PREVIEW_ANSWERS,
+        cover: world::PREVIEW_COVER,
         weight: world::STEPS,
     },
     Area { name: "settle", input: world::settles, answers: world::SETTLE_ANSWERS, cover: &[], weight: 100 },

@@ -1,4 +1,4 @@
-//! The calls on a lent world: worlds sound and not, setups, lists of steps, settles and journals to replay.
+//! The calls on a lent world: worlds sound and not, setups, lists of steps, previews, settles and journals to replay.
 
 mod calls;
 mod inputs;
@@ -6,7 +6,7 @@ mod inputs;
 use crate::difference::Difference;
 use crate::lent::Lent;
 use crate::tally::Tally;
-use inputs::Start;
+use inputs::{Start, SLICE_KINDS, SLICE_LENGTHS};
 use reference::random::Random;
 use reference::sample::{self, Weights, CALM, FLOOD, RACE, STORM, WRONG};
 use reference::words::{encode, order_place, WORDS};
@@ -25,6 +25,10 @@ pub const ANSWERS: &[(&str, &[u32])] = &[
     ("order, none", &[0]),
     ("order", &[1, 2, 7]),
     ("step", &[0, 1, 2, 4, 5, 6, 7, 8, 9, 10, 11, 12]),
+    ("preview, none added", &[0]),
+    ("preview, length of the world", &[1]),
+    ("preview, length of the second slice", &[1]),
+    ("preview", &[2, 4, 5, 6, 7, 8, 9, 10, 11]),
     ("settle, done", &[0]),
     ("settle, stopped", &[0]),
     ("settle", &[1, 2]),
@@ -42,6 +46,24 @@ pub const STEP_ANSWERS: &[(&str, &[u32])] = &[
     ("order", &[7]),
 ];
 pub const STEP_COVER: &[(&str, usize)] = &[("order number multicast", MESSAGES)];
+
+pub const PREVIEW_ANSWERS: &[(&str, &[u32])] = &[
+    ("preview, none added", &[0]),
+    ("preview, FIFO alone", &[0]),
+    ("preview, fewer causal", &[0]),
+    ("preview, as many causal", &[0]),
+    ("preview, more causal", &[0]),
+    ("preview, length of the world", &[1]),
+    ("preview, length of the second slice", &[1]),
+    ("preview", &[2, 4, 5, 6, 7, 8, 9, 10, 11, 12]),
+];
+pub const PREVIEW_COVER: &[(&str, usize)] = &[
+    ("second slice where the step is taken", SLICE_KINDS),
+    ("second slice where the world is not sound", SLICE_KINDS),
+    ("wrong length of the second slice", SLICE_LENGTHS.len()),
+    // 0, 1, 2 and 4 to 12.
+    ("answer of the step where the second slice has a wrong length", 12),
+];
 
 pub const SETTLE_ANSWERS: &[(&str, &[u32])] = &[("settle, done", &[0]), ("settle, stopped", &[0])];
 pub const REPLAY_ANSWERS: &[(&str, &[u32])] = &[("replay", &[0, 1, 3, 13, 14, 15])];
@@ -118,30 +140,35 @@ fn one_order_changed(turn: u64, random: &mut Random, tally: &mut Tally) -> Resul
     Ok(())
 }
 
-/// A log and an order number, and now and then a step and a settle.
+/// A log and an order number, and now and then a step, its preview and a settle.
 fn all_calls(words: &[u16], random: &mut Random, tally: &mut Tally) -> Result<(), Difference> {
     let words = Lent::holding(random, words);
     let process = random.below(18) as u32;
     calls::log(&words, process, random.one_in(2), tally)?;
     calls::order(&words, inputs::message(random, words.part()), tally)?;
     if random.one_in(4) {
-        calls::step(&words, &inputs::any_step(random), random, tally)?;
+        let step = inputs::any_step(random);
+        calls::step(&words, &step, random, tally)?;
+        let second = inputs::second_slice(random, words.part(), 16);
+        calls::preview(&words, &step, &second, random, tally)?;
         calls::settle(&words, random.below(20) as u32, tally)?;
     }
     Ok(())
 }
 
+/// The kinds of lists of steps, taken in turn.
+const LISTS: [(&str, Weights, Start); 6] = [
+    ("steps, calm", CALM, Start::Fresh),
+    ("steps, race", RACE, Start::Fresh),
+    ("steps, storm", STORM, Start::Fresh),
+    ("steps, flood", FLOOD, Start::Fresh),
+    ("steps, wrong", WRONG, Start::Fresh),
+    ("steps, of a sound world", STORM, Start::Sound),
+];
+
 /// A list of steps from a world: the answer and all words after each step, and the order numbers at the end.
 pub fn steps(index: u64, random: &mut Random, tally: &mut Tally) -> Result<(), Difference> {
-    const KINDS: [(&str, Weights, Start); 6] = [
-        ("steps, calm", CALM, Start::Fresh),
-        ("steps, race", RACE, Start::Fresh),
-        ("steps, storm", STORM, Start::Fresh),
-        ("steps, flood", FLOOD, Start::Fresh),
-        ("steps, wrong", WRONG, Start::Fresh),
-        ("steps, of a sound world", STORM, Start::Sound),
-    ];
-    let (kind, weights, start) = KINDS[(index % 6) as usize];
+    let (kind, weights, start) = LISTS[(index % 6) as usize];
     tally.input(kind);
     let mut world = inputs::start(random, start);
     let mut words = Lent::holding(random, &encode(&world));
@@ -150,6 +177,24 @@ pub fn steps(index: u64, random: &mut Random, tally: &mut Tally) -> Result<(), D
         calls::step_on(&mut world, &mut words, &step, tally)?;
     }
     calls::orders(&world, &words, tally)
+}
+
+/// A list of steps from a world, some of which are previewed before they are taken: on the words of the world, or on
+/// some that are no world's. Trust steps, which can deliver most, are all among these.
+pub fn previews(index: u64, random: &mut Random, tally: &mut Tally) -> Result<(), Difference> {
+    let (kind, weights, start) = LISTS[(index % 6) as usize];
+    tally.input(kind);
+    let mut world = inputs::start(random, start);
+    for _ in 0..STEPS {
+        let step = sample::step(random, &world, &weights);
+        if step.first() == Some(&4) || random.one_in(8) {
+            let words = inputs::words(random, &world, 16);
+            let second = inputs::second_slice(random, &words, 16);
+            calls::preview(&Lent::holding(random, &words), &step, &second, random, tally)?;
+        }
+        let _ = world.step(&step);
+    }
+    Ok(())
 }
 
 /// A settle of a world with a budget about what it needs.

@@ -27,6 +27,16 @@ extern "C" {
     ) -> u32;
     fn wt_order(world: *const u16, world_length: usize, message: u32, number: *mut u32) -> u32;
     fn wt_step(world: *mut u16, world_length: usize, step: *const u8, step_length: usize) -> u32;
+    fn wt_preview(
+        world: *const u16,
+        world_length: usize,
+        step: *const u8,
+        step_length: usize,
+        second: *mut u16,
+        second_length: usize,
+        fifo: *mut u32,
+        causal: *mut u32,
+    ) -> u32;
     fn wt_settle(
         world: *mut u16,
         world_length: usize,
@@ -89,6 +99,12 @@ pub fn order(world: &[u16], message: u32, number: &mut u32) -> u32 {
 pub fn step(world: &mut [u16], step: &[u8]) -> u32 {
     version::test(version());
     unsafe { wt_step(world.as_mut_ptr(), world.len(), step.as_ptr(), step.len()) }
+}
+
+pub fn preview(world: &[u16], step: &[u8], second: &mut [u16], fifo: &mut u32, causal: &mut u32) -> u32 {
+    version::test(version());
+    let (words, length) = (second.as_mut_ptr(), second.len());
+    unsafe { wt_preview(world.as_ptr(), world.len(), step.as_ptr(), step.len(), words, length, fifo, causal) }
 }
 
 pub fn settle(world: &mut [u16], budget: u32, arrivals: &mut u32, done: &mut u32) -> u32 {

@@ -81,6 +81,32 @@ impl World {
         step(&mut self.words, bytes)
     }
 
+    /// Shows what a step would do: the world that it would leave, and how many deliveries it adds. This world stays as
+    /// it is. Refusals 5 to 12.
+    ///
+    /// ```
+    /// use engine::{LetterKind, Previewed, Step, World};
+    ///
+    /// let mut world = World::new(&[0, 1])?;
+    /// world.step(Step::multicast(0, &[1])?)?;
+    /// world.step(Step::arrival(LetterKind::First, 0, 0, 1))?;
+    /// let (then, adds) = world.preview(Step::arrival(LetterKind::Ok, 0, 1, 1))?;
+    /// assert_eq!(adds, Previewed { fifo: 1, causal: 1 });
+    /// assert_eq!(then.causal_log(1)?, [0]);
+    /// assert!(world.causal_log(1)?.is_empty());
+    /// # Ok::<(), engine::Refusal>(())
+    /// ```
+    pub fn preview(&self, step: Step) -> Result<(World, Previewed), Refusal> {
+        self.preview_bytes(&step.record())
+    }
+
+    /// Shows what would come of what is given as a step. Refusals 4 to 12.
+    pub fn preview_bytes(&self, bytes: &[u8]) -> Result<(World, Previewed), Refusal> {
+        let mut words = vec![0; WORDS];
+        let previewed = preview(&self.words, bytes, &mut words)?;
+        Ok((World { words }, previewed))
+    }
+
     /// Makes at most so many arrivals, each of the lowest letter between two up processes. They are no records of a
     /// journal: if you keep one, take as a step, again and again, the arrival of the first of [`World::letters`] with
     /// both ends up. That leaves the same words.
@@ -183,6 +209,21 @@ pub fn order(world: &[u16], message: u32) -> Result<u16, Refusal> {
 /// Takes a step of 8 bytes. Refusals 1, 2, 4 to 12.
 pub fn step(world: &mut [u16], step: &[u8]) -> Result<(), Refusal> {
     Refusal::check(raw::step(world, step))
+}
+
+/// How many FIFO and how many causal deliveries a step adds, those of all processes together.
+#[derive(Clone, Copy, Debug, PartialEq, Eq)]
+pub struct Previewed {
+    pub fifo: u32,
+    pub causal: u32,
+}
+
+/// Puts into a second slice, over whatever it holds, the words that the step would leave on a copy of the world.
+/// Refusals 1 (of either slice), 2 (of the world), 4 to 12.
+pub fn preview(world: &[u16], step: &[u8], second: &mut [u16]) -> Result<Previewed, Refusal> {
+    let (mut fifo, mut causal) = (0, 0);
+    Refusal::check(raw::preview(world, step, second, &mut fifo, &mut causal))?;
+    Ok(Previewed { fifo, causal })
 }
 
 /// The number of arrivals that a settle made, and whether it is done or was stopped by its budget.

@@ -2,7 +2,7 @@
 //! wrapper here. The refusals' words are those of the table in docs/REFUSALS.md, and of document 01 as docs/TRACE.md has
 //! its sentences.
 
-use engine::{journal, LetterKind, Record, Refusal, Setup, Step, World};
+use engine::{journal, LetterKind, Previewed, Record, Refusal, Setup, Step, World};
 use engine::{GROUPS, MESSAGES, PROCESSES, SETTLE_ALL, WORDS};
 use std::fs;
 use std::path::Path;
@@ -59,6 +59,20 @@ fn refusals() -> Vec<String> {
     Refusal::ALL.iter().flat_map(lines).collect()
 }
 
+/// A letter that would be answered, and then a trust step that would let in two messages.
+fn previews(world: &World) -> Result<Vec<String>, Refusal> {
+    let line = |what: &str, then: &World, adds: Previewed| {
+        let (fifo, causal, letters) = (adds.fifo, adds.causal, then.letters().len());
+        format!("preview of {what}: refusal 0, {fifo} FIFO, {causal} causal, {letters} letters")
+    };
+    let (shown, first) = world.preview(Step::arrival(LetterKind::First, 0, 0, 1))?;
+    let (after, second) = shown.preview(Step::trust(1, &[])?)?;
+    Ok(vec![
+        line("arrival first 0 from 0 to 1", &shown, first),
+        line("trust 1 in none, after it", &after, second),
+    ])
+}
+
 fn world() -> Result<Vec<String>, Refusal> {
     let mut world = World::new(&[0, 1, 1])?;
     world.step(Step::multicast(0, &[1])?)?;
@@ -80,6 +94,7 @@ fn world() -> Result<Vec<String>, Refusal> {
     }));
     let refused = (0..=64).filter(|m| world.order(*m) == Err(Refusal::Message)).count();
     lines.push(format!("no such message: {refused}"));
+    lines.extend(previews(&world)?);
     lines.extend(world.letters().iter().map(|l| {
         let kind = l.kind.number();
         format!("in flight: message {}, kind {kind}, from {}, to {}", l.message, l.from, l.to)

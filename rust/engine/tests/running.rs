@@ -1,6 +1,6 @@
 //! What whoever runs a mill has to know: what to carry, what to keep, and when a world or a journal is full.
 
-use engine::{journal, Letter, LetterKind, Record, Refusal, Setup, Step, World};
+use engine::{journal, raw, Letter, LetterKind, Previewed, Record, Refusal, Setup, Step, World};
 use engine::{MESSAGES, PROCESSES, SETTLE_ALL, WORDS};
 
 /// A world and the records that led to it.
@@ -239,6 +239,104 @@ fn a_trust_step_alone_can_deliver_and_send_letters() {
     mill.take(Step::trust(1, &[0, 1]).unwrap());
     assert_eq!(mill.causal_log(1), [0]);
     assert!(mill.lowest().is_some());
+}
+
+/// The lengths of all FIFO and of all causal logs, each taken together.
+fn delivered(world: &World) -> (usize, usize) {
+    let all = |log: fn(&World, u8) -> Result<&[u16], Refusal>| {
+        (0..world.processes() as u8).map(|process| log(world, process).unwrap().len()).sum()
+    };
+    (all(World::fifo_log), all(World::causal_log))
+}
+
+/// What a letter, or a trust step, would do is shown and not done; then it is done, and is what was shown.
+#[test]
+fn a_preview_shows_what_a_step_does_and_does_nothing() {
+    let mut mill = busy_mill();
+    let mut deliveries = 0;
+    while let Some(letter) = mill.lowest() {
+        let steps =
+            [Step::Arrival(letter), Step::trust(letter.to, &[letter.to]).unwrap(), Step::crash(letter.to)];
+        for step in steps {
+            let before = mill.world.clone();
+            let (shown, adds) = mill.world.preview(step).unwrap();
+            assert_eq!(mill.world, before, "{step:?}");
+            let mut then = before.clone();
+            then.step(step).unwrap();
+            assert_eq!(shown, then, "{step:?}");
+            let ((fifo, causal), (fifo_then, causal_then)) = (delivered(&before), delivered(&then));
+            let grown = Previewed { fifo: (fifo_then - fifo) as u32, causal: (causal_then - causal) as u32 };
+            assert_eq!(adds, grown, "{step:?}");
+            deliveries += adds.causal;
+        }
+        mill.take(steps[0]);
+    }
+    assert!(deliveries > 20, "{deliveries}");
+}
+
+/// The call overtakes the recipe: first it would be FIFO-delivered alone, and the recipe would bring both.
+#[test]
+fn a_preview_tells_fifo_deliveries_from_causal_ones() {
+    let mut mill = Mill::new(&[0, 1, 2]);
+    mill.multicast(0, &[2]);
+    mill.multicast(0, &[1]);
+    mill.take(Step::arrival(LetterKind::First, 1, 0, 1));
+    mill.take(Step::arrival(LetterKind::Ok, 1, 1, 1));
+    mill.multicast(1, &[2]);
+    mill.take(Step::arrival(LetterKind::First, 2, 1, 2));
+    let call = Step::arrival(LetterKind::Ok, 2, 2, 2);
+    assert_eq!(mill.world.preview(call).unwrap().1, Previewed { fifo: 1, causal: 0 });
+    mill.take(call);
+    mill.take(Step::arrival(LetterKind::First, 0, 0, 2));
+    let (shown, adds) = mill.world.preview(Step::arrival(LetterKind::Ok, 0, 2, 2)).unwrap();
+    assert_eq!(adds, Previewed { fifo: 1, causal: 2 });
+    assert_eq!((shown.fifo_log(2), shown.causal_log(2)), (Ok(&[2, 0][..]), Ok(&[0, 2][..])));
+}
+
+/// What was shown is a world: what would come after can be looked at, and taken there, without the mill.
+#[test]
+fn a_preview_can_be_gone_on_from() {
+    let mut mill = Mill::new(&[0, 1, 1]);
+    mill.multicast(0, &[1]);
+    let before = mill.world.clone();
+    let (mut shown, adds) = mill.world.preview(Step::arrival(LetterKind::First, 0, 0, 1)).unwrap();
+    assert_eq!(adds, Previewed { fifo: 0, causal: 0 });
+    shown = shown.preview(Step::arrival(LetterKind::Ok, 0, 1, 1)).unwrap().0;
+    let (after, adds) = shown.preview(Step::trust(1, &[1]).unwrap()).unwrap();
+    assert_eq!((adds, after.causal_log(1)), (Previewed { fifo: 1, causal: 1 }, Ok(&[0][..])));
+    assert!(shown.settle(SETTLE_ALL).done && shown.causal_log(2) == Ok(&[0]));
+    assert_eq!(mill.world, before);
+    mill.carry();
+    assert_eq!(mill.world, shown);
+}
+
+#[test]
+fn a_refused_preview_changes_nothing_that_was_lent() {
+    let world = busy_mill().world;
+    let (sound, mut unsound) = (world.words().to_vec(), world.words().to_vec());
+    unsound[0] = 17;
+    let (taken, refused) = (Step::crash(0).record(), Step::crash(4).record());
+    let cases = [
+        (&sound[..], &taken[..], WORDS, 0),
+        (&sound[1..], &taken[..], WORDS, 1),
+        (&sound[..], &taken[..], WORDS - 1, 1),
+        (&sound[..], &refused[..], WORDS + 1, 1),
+        (&unsound[..], &taken[..], 0, 1),
+        (&unsound[..], &refused[..], WORDS, 2),
+        (&sound[..], &refused[..7], WORDS, 4),
+        (&sound[..], &refused[..], WORDS, 9),
+    ];
+    for (words, step, length, answer) in cases {
+        let lent = words.to_vec();
+        let mut second = vec![0xA5A5; length];
+        let (mut fifo, mut causal) = (7, 8);
+        assert_eq!(raw::preview(&lent, step, &mut second, &mut fifo, &mut causal), answer);
+        assert_eq!(lent, words);
+        assert_eq!(second.iter().all(|&word| word == 0xA5A5), answer != 0);
+        assert_eq!((fifo, causal), if answer == 0 { (0, 0) } else { (7, 8) });
+    }
+    assert_eq!(world.preview_bytes(&refused[..7]), Err(Refusal::Form));
+    assert_eq!(world.preview(Step::crash(4)), Err(Refusal::Down));
 }
 
 #[test]

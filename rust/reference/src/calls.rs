@@ -4,7 +4,7 @@ use crate::replay;
 use crate::settle::Settled;
 use crate::sound;
 use crate::words::{encode, log_place, WORDS};
-use crate::world::World;
+use crate::world::{Process, World};
 use crate::Refusal;
 
 /// Makes the fresh world of a setup record. Refusals 1, 3.
@@ -21,6 +21,35 @@ pub fn step(words: &mut [u16], step: &[u8]) -> Result<(), Refusal> {
     world.step(step)?;
     words.copy_from_slice(&encode(&world));
     Ok(())
+}
+
+/// How many FIFO and how many causal deliveries a step adds, over all processes.
+#[derive(Clone, Copy, Debug, PartialEq, Eq)]
+pub struct Previewed {
+    pub fifo: u32,
+    pub causal: u32,
+}
+
+/// Document 02, card 2: does a step on a copy of the world, and puts the copy into the second slice. Refusals 1 of
+/// either slice, 2 of the world, 4 to 12.
+pub fn preview(words: &[u16], step: &[u8], second: &mut [u16]) -> Result<Previewed, Refusal> {
+    has_length(words)?;
+    has_length(second)?;
+    let world = sound::read(words)?;
+    let mut copy = world.clone();
+    copy.step(step)?;
+    second.copy_from_slice(&encode(&copy));
+    Ok(Previewed {
+        fifo: added(&world, &copy, |process| &process.fifo_log),
+        causal: added(&world, &copy, |process| &process.causal_log),
+    })
+}
+
+/// How many items the logs of all processes have behind those that they had before.
+fn added(before: &World, after: &World, log: fn(&Process) -> &Vec<usize>) -> u32 {
+    let pairs = before.processes.iter().zip(&after.processes);
+    let new = pairs.map(|(old, new)| log(new).strip_prefix(&log(old)[..]).expect("a log goes on").len());
+    new.sum::<usize>() as u32
 }
 
 /// Settles within a budget. Refusals 1, 2.

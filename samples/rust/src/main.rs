@@ -2,7 +2,7 @@
 //! The weighbridge acts on the release and calls the batch at the mixers (2). The line from the office to the mixers is
 //! slow, and the call comes before the recipe: the mixer has the call, but does not act on it before the recipe, which
 //! causally precedes it. The recipe and the batch are for one sales order, whose number they carry; the release is for
-//! none.
+//! none. Before the last letter of the call and that of the recipe arrive, previews show what each would do.
 
 use engine::{LetterKind, Refusal, Step, World};
 
@@ -31,13 +31,22 @@ impl Mill {
 
     fn arrive(&mut self, kind: LetterKind, message: u8, from: u8, to: u8) -> Result<(), Refusal> {
         self.world.step(Step::arrival(kind, message, from, to))?;
-        let kind = match kind {
-            LetterKind::First => "first letter",
-            LetterKind::Relay => "relay",
-            LetterKind::Ok => "OK",
-        };
-        println!("{kind} of message {message} from {} arrives at {}", name(from), name(to));
+        println!("{} of message {message} from {} arrives at {}", kind_name(kind), name(from), name(to));
         self.act()
+    }
+
+    /// What a letter would do, and the logs that its receiver would have. The world stays as it is.
+    fn preview(&self, kind: LetterKind, message: u8, from: u8, to: u8) -> Result<(), Refusal> {
+        let (then, adds) = self.world.preview(Step::arrival(kind, message, from, to))?;
+        println!(
+            "preview: {} of message {message} from {} would make {} FIFO and {} causal deliveries, then {}",
+            kind_name(kind),
+            name(from),
+            adds.fifo,
+            adds.causal,
+            logs(&then, to)?
+        );
+        Ok(())
     }
 
     /// Each machine acts on what is new in its causal log, in the log's order.
@@ -67,9 +76,7 @@ impl Mill {
 
     fn print_logs(&self) -> Result<(), Refusal> {
         for machine in [OFFICE, WEIGHBRIDGE, MIXER] {
-            let fifo = items(self.world.fifo_log(machine)?);
-            let causal = items(self.world.causal_log(machine)?);
-            println!("{}: FIFO{fifo}; causal{causal}", name(machine));
+            println!("{}", logs(&self.world, machine)?);
         }
         Ok(())
     }
@@ -88,6 +95,20 @@ fn described(world: &World, message: u8) -> Result<String, Refusal> {
     Ok(format!("message {message}: {}{order}", BODIES[usize::from(message)]))
 }
 
+fn kind_name(kind: LetterKind) -> &'static str {
+    match kind {
+        LetterKind::First => "first letter",
+        LetterKind::Relay => "relay",
+        LetterKind::Ok => "OK",
+    }
+}
+
+fn logs(world: &World, machine: u8) -> Result<String, Refusal> {
+    let fifo = items(world.fifo_log(machine)?);
+    let causal = items(world.causal_log(machine)?);
+    Ok(format!("{}: FIFO{fifo}; causal{causal}", name(machine)))
+}
+
 fn items(log: &[u16]) -> String {
     log.iter().map(|message| format!(" {message}")).collect()
 }
@@ -100,10 +121,12 @@ fn main() -> Result<(), Refusal> {
     mill.arrive(LetterKind::Ok, 1, WEIGHBRIDGE, WEIGHBRIDGE)?;
     mill.multicast(WEIGHBRIDGE, 2, SALES_ORDER)?;
     mill.arrive(LetterKind::First, 2, WEIGHBRIDGE, MIXER)?;
+    mill.preview(LetterKind::Ok, 2, MIXER, MIXER)?;
     mill.arrive(LetterKind::Ok, 2, MIXER, MIXER)?;
     mill.print_letters();
     mill.print_logs()?;
     mill.arrive(LetterKind::First, 0, OFFICE, MIXER)?;
+    mill.preview(LetterKind::Ok, 0, MIXER, MIXER)?;
     mill.arrive(LetterKind::Ok, 0, MIXER, MIXER)?;
     mill.print_logs()?;
 

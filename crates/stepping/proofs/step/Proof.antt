@@ -1,15 +1,11 @@
--- `stepping::step` meets its contract: what the refusal says decides. Assumes nothing.
+-- `stepping::step` meets its contract: what the judge says decides. Assumes nothing.
 use mathlib.Core.Path.{sym, ap, _∙_}
 use Rattle.definitions.specs.World.{encode, view}
 use Rattle.definitions.specs.Steps.{Step, read, refusal, step}
-use Rattle.answers.specs.Laws.{taken-zero, refused-number}
-use Rattle.stepping.specs.Stepping.{words-taken, words-refused}
+use Rattle.stepping.specs.Stepping.{judged-taken, judged-refused, words-taken, words-refused}
 use borrow.Author.Needs.{needs}
 use Rattle.stepping.proofs.step.Statement.{statement}
 use Rattle.stepping.proofs.step.Tie as tie
-
-take-requires : tie.Need-take-requires
-take-requires c κs = search needs
 
 judge-requires : tie.Need-judge-requires
 judge-requires c κs = search needs
@@ -17,29 +13,26 @@ judge-requires c κs = search needs
 enum-known-r : tie.Need-enum-known-r
 enum-known-r c = search needs
 
-enum-told : tie.Need-enum-told
-enum-told c = search needs
+enum-known-x : tie.Need-enum-known-x
+enum-known-x c = search needs
 
 act-requires : tie.Need-act-requires
 act-requires c κs =
-    let t = c .before in
-    let j = t .before .before in
-    let b = j .before .before .before .before .before in
-    (b .pre .0, b .pre .1, b .pre .2, taken-zero (t .enum-told .given .1) (j .judge .ensures))
+    let v = c .before .before in
+    let j = v .before .before in
+    let b = j .before .before .before .before in
+    let t = judged-taken (view (b .args .w .now)) (read (b .args .bytes .now)) (v .x .given .1) (j .judge .ensures) in
+    (b .pre .0, b .pre .1, b .pre .2, ap (refusal (view (b .args .w .now))) (t .1) ∙ t .0)
 
 same-length : tie.Need-same-length
 same-length c = search needs
 
 returns : tie.Need-returns
 returns c =
-    let x = c .before .r .given in
     let j = c .before .before .before in
-    let g = j .before .before in
-    let b = g .before .before .before in
-    let w = b .args .w .now in
-    let bytes = b .args .bytes .now in
-    let e = refused-number (x .1) (j .judge .ensures) ∙ ap (refusal (view w)) (g .take .ensures) in
-    (e, words-refused w (read bytes) (x .0 .0) (b .pre .0) e)
+    let b = j .before .before .before .before in
+    let e = judged-refused (view (b .args .w .now)) (read (b .args .bytes .now)) (c .before .r .given .1) (j .judge .ensures) in
+    (e, words-refused (b .args .w .now) (read (b .args .bytes .now)) (c .before .r .given .0 .0) (b .pre .0) e)
 
 same-length-2 : tie.Need-same-length-2
 same-length-2 c = search needs
@@ -47,26 +40,22 @@ same-length-2 c = search needs
 returns-2 : tie.Need-returns-2
 returns-2 c =
     let o = c .before .before in
-    let t = o .before .before in
-    let j = t .before .before in
-    let g = j .before .before in
-    let b = g .before .before .before in
-    let w = b .args .w .now in
-    let bytes = b .args .bytes .now in
-    let e = taken-zero (t .enum-told .given .1) (j .judge .ensures ∙ ap (refusal (view w)) (g .take .ensures)) in (
-      sym e,
-      o .act .ensures ∙ ap (λ (x : Step). encode (step (view w) x)) (g .take .ensures)
-          ∙ words-taken w (read bytes) e,
+    let v = o .before .before .before in
+    let j = v .before .before in
+    let a = j .before .before .before .before .args in
+    let t = judged-taken (view (a .w .now)) (read (a .bytes .now)) (v .x .given .1) (j .judge .ensures) in (
+      sym (t .0),
+      o .act .ensures ∙ ap (λ (x : Step). encode (step (view (a .w .now)) x)) (t .1)
+          ∙ words-taken (a .w .now) (read (a .bytes .now)) (t .0),
     )
 
 pub step-spec : {M : Type 1} → statement M
 step-spec =
     tie.close
     (tie.spec
-    take-requires
     judge-requires
     enum-known-r
-    enum-told
+    enum-known-x
     act-requires
     same-length
     returns

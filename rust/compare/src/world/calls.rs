@@ -1,13 +1,14 @@
 //! Each call on both sides: the answers are the same, and all lent words too, as they were on a refusal.
 
+use super::inputs::{SecondSlice, SLICE_LENGTHS};
 use crate::difference::{same, Difference};
 use crate::lent::Lent;
 use crate::tally::{number, Tally};
 use engine::raw;
 use engine::world as archive;
-use reference::calls as second;
+use reference::calls::{self as second, Previewed};
 use reference::random::Random;
-use reference::words::encode;
+use reference::words::{encode, WORDS};
 use reference::world::World;
 use reference::Refusal;
 
@@ -104,6 +105,79 @@ pub fn step_on(world: &mut World, words: &mut Lent<u16>, step: &[u8], tally: &mu
     same("step: answer", answer, right.map_err(Refusal::number))?;
     expected.part_mut().copy_from_slice(&encode(world));
     words.same(&expected, "step: world")
+}
+
+/// A preview on lent words that need not be sound, into a second slice of any length and content.
+pub fn preview(
+    words: &Lent<u16>,
+    step: &[u8],
+    slice: &SecondSlice,
+    random: &mut Random,
+    tally: &mut Tally,
+) -> Compared {
+    let step = Lent::holding(random, step);
+    let (lent, lent_step) = (words.clone(), step.clone());
+    let (mut shown, mut expected) = (slice.words.clone(), slice.words.clone());
+    let (mut fifo, mut causal) = (7_777, 8_888);
+    let answer = raw::preview(lent.part(), lent_step.part(), shown.part_mut(), &mut fifo, &mut causal);
+    let right = second::preview(words.part(), step.part(), expected.part_mut());
+    same("preview: answer", answer, number(&right))?;
+    let numbers = right.map_or((7_777, 8_888), |right| (right.fifo, right.causal));
+    same("preview: lent numbers", (fifo, causal), numbers)?;
+    lent.same(words, "preview: world")?;
+    lent_step.same(&step, "preview: lent step")?;
+    shown.same(&expected, "preview: second slice")?;
+    let mut wrapped = slice.words.clone();
+    let numbers = archive::preview(lent.part(), lent_step.part(), wrapped.part_mut());
+    let numbers = numbers.map(|adds| (adds.fifo, adds.causal)).map_err(|refusal| refusal.number());
+    same("preview: wrapper", numbers, right.map(|adds| (adds.fifo, adds.causal)).map_err(Refusal::number))?;
+    wrapped.same(&expected, "preview: second slice of the wrapper")?;
+    let alone = as_step(words, step.part(), &shown, answer)?;
+    note_preview(right, alone, slice, tally);
+    Ok(())
+}
+
+/// What the archive's step answers on a copy of the words. The preview answered the same where the length of its second
+/// slice is right, and if it was taken, the slice has the words that the step left.
+fn as_step(words: &Lent<u16>, step: &[u8], shown: &Lent<u16>, answer: u32) -> Result<u32, Difference> {
+    let mut copy = words.clone();
+    let alone = archive::step(copy.part_mut(), step).map_or_else(|refusal| refusal.number(), |()| 0);
+    if shown.part().len() == WORDS {
+        same("preview: answer of the step", answer, alone)?;
+    }
+    if answer == 0 {
+        let mut stepped = shown.clone();
+        stepped.part_mut().copy_from_slice(copy.part());
+        shown.same(&stepped, "preview: words of the step")?;
+    }
+    Ok(alone)
+}
+
+/// Notes a preview by what the step adds, or by its refusal; of refusal 1, which length is wrong.
+fn note_preview(right: Result<Previewed, Refusal>, alone: u32, slice: &SecondSlice, tally: &mut Tally) {
+    let length = slice.words.part().len();
+    let call = match right {
+        Ok(Previewed { fifo: 0, causal: 0 }) => "preview, none added",
+        Ok(Previewed { causal: 0, .. }) => "preview, FIFO alone",
+        Ok(Previewed { fifo, causal }) if fifo == causal => "preview, as many causal",
+        Ok(Previewed { fifo, causal }) if fifo < causal => "preview, more causal",
+        Ok(_) => "preview, fewer causal",
+        Err(Refusal::WorldLength) if length == WORDS => "preview, length of the world",
+        Err(Refusal::WorldLength) => "preview, length of the second slice",
+        Err(_) => "preview",
+    };
+    tally.answer(call, number(&right));
+    match right {
+        Ok(_) => tally.cover("second slice where the step is taken", slice.kind),
+        Err(Refusal::NotSound) => tally.cover("second slice where the world is not sound", slice.kind),
+        _ => {}
+    }
+    if length != WORDS {
+        tally.cover("answer of the step where the second slice has a wrong length", alone as usize);
+    }
+    if let Some(at) = SLICE_LENGTHS.iter().position(|&wrong| wrong == length) {
+        tally.cover("wrong length of the second slice", at);
+    }
 }
 
 pub fn settle(words: &Lent<u16>, budget: u32, tally: &mut Tally) -> Compared {

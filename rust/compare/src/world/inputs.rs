@@ -2,11 +2,12 @@
 
 use super::fresh;
 use crate::journal::check_anew;
+use crate::lent::Lent;
 use reference::journal as second;
 use reference::random::Random;
 use reference::record::{self, Record};
 use reference::sample::{self, CALM, FLOOD, RACE, STORM, WRONG};
-use reference::words::WORDS;
+use reference::words::{encode, WORDS};
 use reference::world::World;
 
 /// Where a list of steps starts.
@@ -50,6 +51,41 @@ pub fn length(random: &mut Random, wrong: usize) -> usize {
         3 => random.below(WORDS),
         _ => WORDS + random.below(1000),
     }
+}
+
+/// The words of a world, or one time in so many with a word changed, and one time in as many cut or made longer.
+pub fn words(random: &mut Random, world: &World, wrong: usize) -> Vec<u16> {
+    let mut words = encode(world);
+    if random.one_in(wrong) {
+        let at = random.below(WORDS);
+        words[at] = other_word(random, words[at]);
+    }
+    words.resize(length(random, wrong), 0);
+    words
+}
+
+/// The second slice of a preview.
+pub struct SecondSlice {
+    pub words: Lent<u16>,
+    /// What it holds: 0 any words, 1 a sound world, 2 the words that are previewed.
+    pub kind: usize,
+}
+
+pub const SLICE_KINDS: usize = 3;
+/// Wrong lengths that must have been tried.
+pub const SLICE_LENGTHS: [usize; 3] = [0, WORDS - 1, WORDS + 1];
+
+/// A second slice for a preview of these words: of the length of a world, or one time in so many of another.
+pub fn second_slice(random: &mut Random, words: &[u16], wrong: usize) -> SecondSlice {
+    let kind = random.below(SLICE_KINDS);
+    let length = length(random, wrong);
+    let mut held = match kind {
+        0 => return SecondSlice { words: Lent::room(random, length), kind },
+        1 => encode(&start(random, Start::Fresh)),
+        _ => words.to_vec(),
+    };
+    held.resize(length, 0);
+    SecondSlice { words: Lent::holding(random, &held), kind }
 }
 
 /// Some word that is not this one.
