@@ -10,15 +10,16 @@ use native.Mathlib.Omega.{arith}
 use native.Mathlib.Nat.{mul-le-mul}
 use lib.Dec.{eqb}
 use borrow.Author.Tests.{eqb-true, ne-eqb, lt-ltb}
-use Rattle.definitions.specs.General.{pick, tally, bit}
+use Rattle.definitions.specs.General.{pick, tally, bit, sum}
 use Rattle.definitions.specs.World.{size, count, sender, flight, State, is-process, addressed}
 use Rattle.definitions.specs.Sound.{sends}
 use Rattle.base.specs.Tests.{bool-cases, clash, pick-le, both, both-l, both-r, both-i}
 use Rattle.base.specs.Count.{tally-le, tally-zero, tally-cong}
+use Rattle.base.specs.Sums.{sum-mono}
 use Rattle.world.specs.SoundLaws.{Sound, size-high, count-high, letter-facts}
 use Rattle.effects.specs.Arrival.{Fly}
 use Rattle.effects.specs.Spent.{Spent}
-use Rattle.bound.specs.Potential.{sum, sum-mono, addressee-count, sent, owed, one, cost, from-one, of-kind, of-message, potential, one-no, sends-later, sent-if}
+use Rattle.bound.specs.Potential.{addressee-count, sent, owed, one, cost, from-one, of-kind, of-message, potential, one-no, sends-later, sent-if}
 
 -- ---- sums
 -- a number where a test passes

@@ -8,44 +8,20 @@ use mathlib.Core.Bool.{Bool, true, false, not}
 use mathlib.Core.Logic.{_⊎_, inl, inr}
 use Prim.Native.Nat.{ℕ, zero, suc, _+_, _≤_, _<_}
 use native.Mathlib.Omega.{arith}
-use native.Mathlib.Nat.{not-suc-le-zero}
-use native.Mathlib.Decide.{ℕ-discrete}
 use lib.Dec.{ltb, leb, eqb}
 use borrow.Author.Tests.{eqb-true, eq-eqb, ne-eqb, leb-true, le-leb, not-true}
-use Rattle.definitions.specs.General.{pick, tally, bit, without}
+use Rattle.definitions.specs.General.{pick, tally, sum, bit, without}
 use Rattle.definitions.specs.World.{size, count, group, next, held, sender, number, flight, State, put, addressed}
 use Rattle.definitions.specs.Sound.{addressee, sends}
 use Rattle.definitions.specs.Machine.{leave}
 use Rattle.base.specs.Tests.{bool-cases, clash, pick-no, both, both-l, both-r, both-i}
+use Rattle.base.specs.Sums.{sum-mono, sum-falls}
 use Rattle.base.specs.Bits.{without-hit}
 use Rattle.world.specs.Layout.{put-same}
 use Rattle.world.specs.SoundLaws.{Sound, size-high, count-high, letter-facts}
 use Rattle.effects.specs.Views.{Ground, ground}
 use Rattle.effects.specs.Arrival.{Fly}
 use Rattle.effects.specs.Spent.{SentBy, Spent, Once, spent-on}
-
--- ---- sums
-unfoldable pub sum : ℕ → (ℕ → ℕ) → ℕ
-sum zero f = 0
-sum (suc n) f = sum n f + f n
-
--- of numbers that are at most others
-pub sum-mono : (n : ℕ) (f g : ℕ → ℕ) → ((i : ℕ) → i < n → f i ≤ g i) → sum n f ≤ sum n g
-unfolding sum
-sum-mono zero f g h = omega arith
-sum-mono (suc n) f g h = omega (arith, sum-mono n f g (λ i l. h i (omega arith)), h n (omega arith))
-
--- and one is below
-pub sum-falls : (n : ℕ) (f g : ℕ → ℕ) → ((i : ℕ) → i < n → f i ≤ g i) → (j : ℕ) → j < n → f j < g j
-    → sum n f < sum n g
-unfolding sum
-sum-falls zero f g h j l e = absurd (not-suc-le-zero l)
-sum-falls (suc n) f g h j l e = elim (ℕ-discrete j n) [
-  | yes q ↦
-      let e′ : f n < g n = rw q at e in
-      omega (arith, sum-mono n f g (λ i a. h i (omega arith)))
-  | no q ↦ omega (arith, sum-falls n f g (λ i a. h i (omega arith)) j (omega arith) e, h n (omega arith))
-]
 
 -- ---- the potential
 -- A: the number of m's addressees

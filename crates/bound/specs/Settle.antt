@@ -6,6 +6,7 @@ use mathlib.Core.Path.{_≡_, refl, ap}
 use mathlib.Core.List.{List}
 use Prim.Native.Nat.{ℕ, zero, suc, _+_, _*_, _≤_, _<_}
 use native.Mathlib.Omega.{arith}
+use Rattle.definitions.specs.General.{sum}
 use Rattle.definitions.specs.World.{count, State, put}
 use Rattle.definitions.specs.Setup.{setup-refusal}
 use Rattle.definitions.specs.Machine.{leave, arrival}
@@ -21,7 +22,7 @@ use Rattle.effects.specs.Views.{Ground}
 use Rattle.effects.specs.Holding.{arrival-ground}
 use Rattle.effects.specs.Spent.{arrived-once, step-once}
 use Rattle.bound.specs.Once.{flying-spent}
-use Rattle.bound.specs.Potential.{sum, addressee-count, potential, cost-lower, potential-falls, leave-falls}
+use Rattle.bound.specs.Potential.{addressee-count, potential, cost-lower, potential-falls, leave-falls}
 use Rattle.bound.specs.Bound.{ceiling, reached-potential, ceiling-most, sound-potential}
 
 -- ---- an answer: the arrivals that it names, and whether it says done

@@ -11,20 +11,20 @@ use lib.ListN.{length, take, drop, getD}
 use borrow.Author.Tests.{ltb-true, eq-eqb, lt-ltb}
 use Rattle.definitions.specs.General.{pick, needs, first-from, some, bit, tabulate, In, in-at, Listed}
 use Rattle.definitions.specs.World.{Cell, size, count, rule, group, trust, counter, sequence, next, delivered, up, fifo-length, causal-length, held, marks, fifo, causal, sender, mask, stamp, number, flight, order, unused, State, encode, view, addr, has-group, is-process}
-use Rattle.definitions.specs.Sound.{sound}
 use Rattle.definitions.specs.Setup.{setup-refusal, made}
 use Rattle.definitions.specs.Steps.{Step, multicasts, arrives, loses, trusts, crashes, malformed, read, good-mask, is-up, in-flight, refusal, accepted, step, after}
 use Rattle.definitions.specs.Settle.{Choice, letter, nothing, moves, receiver, origin, kind, movable, letter-of, lowest}
 use Rattle.definitions.specs.Words.{needs-world, making-refusal, made-words, step-refusal, stepped-words, log-length, log-start, log-refusal, log-words}
-use Rattle.base.specs.Tests.{both-l, both-r, clash}
+use Rattle.base.specs.Tests.{both-l, both-r}
 use Rattle.base.specs.Search.{first-law, first-cong, some-cong}
 use Rattle.base.specs.Bits.{only-cong}
 use Rattle.base.specs.Tabulate.{length-tabulate, getD-tabulate}
-use Rattle.world.specs.Layout.{Within, length-encode, get-encode, encode-ext, part-encode}
-use Rattle.world.specs.SoundLaws.{Sound, size-high, count-high, group-high, sender-high, fifo-length-high, causal-length-high, fifo-high, sound-words, facts-sound}
+use Rattle.world.specs.Layout.{Within, get-encode, encode-ext, part-encode}
+use Rattle.world.specs.SoundLaws.{Sound, size-high, count-high, group-high, sender-high, fifo-length-high, causal-length-high, fifo-high}
 use Rattle.world.specs.Calls.{refused-same}
 use Rattle.world.specs.StepLaws.{accepted-multicast, accepted-arrival, accepted-loss, accepted-trust}
-use Rattle.effects.specs.Logs.{log-item}
+use Rattle.keeps.specs.Keeps.{sound-words-taken, encoded}
+use Rattle.effects.specs.Logs.{log-item, encoded-length}
 use Rattle.carried.specs.Same.{Fits, Agree, same, process-low, message-low, leave-agree, arrival-agree, trust-agree, crash-agree, multicast-agree}
 
 -- ---- refusals
@@ -238,18 +238,10 @@ view-agree s h = record { at = λ c w. (sym (get-encode s c w), sound-fits s h c
 pub same-words : {s t : State} → Agree s t → encode t ≡ encode s
 same-words {s} {t} a = encode-ext t s (λ c w. sym (same a c w))
 
-needs-both : (a b : Bool) (n : ℕ) → a ≡ true → b ≡ true → needs 1 a (needs 2 b n) ≡ n
-needs-both true true n e f = refl
-needs-both true false n e f = clash {b = false} f refl
-needs-both false b n e f = clash {b = false} e refl
-
 module _ (s : State) (h : Sound s) where
   -- the words of a sound state are not refused
   pub sound-world : (n : ℕ) → needs-world (encode s) n ≡ n
-  sound-world n =
-      needs-both (eqb (length (encode s)) 20480) (sound (view (encode s))) n
-      (eq-eqb (length (encode s)) 20480 (length-encode s))
-      (facts-sound (view (encode s)) (sound-words (encode s) s refl h))
+  sound-world n = sound-words-taken (encode s) (encoded s h) n
 
   -- ---- a step
   pub refusal-carried : (bytes : List ℕ) → step-refusal (encode s) bytes ≡ refusal s (read bytes)
@@ -287,10 +279,6 @@ module _ (s : State) (h : Sound s) (p : ℕ) (hp : p < s size) where
   p16 : p < 16
   p16 = omega (arith, size-high s h)
 
-  read-length : (log : Bool) → log-length (view (encode s)) p log ≡ log-length s p log
-  read-length true = sym (view-agree s h .at (causal-length p) p16 .0)
-  read-length false = sym (view-agree s h .at (fifo-length p) p16 .0)
-
   log-taken : log-refusal (encode s) p ≡ 0
   unfolding log-refusal
   log-taken =
@@ -315,7 +303,7 @@ module _ (s : State) (h : Sound s) (p : ℕ) (hp : p < s size) where
   unfolding log-words
   log-carried log =
       ap₂ (λ (n l : ℕ). pick (eqb n 0) (take l (drop (log-start p log) (encode s))) []) log-taken
-      (read-length log)
+      (encoded-length s p p16 log)
       ∙ part log
 
 -- the log of no process

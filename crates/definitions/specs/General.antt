@@ -1,6 +1,6 @@
 -- The general words that the definitions are written in: choice, refusals by number and what a call answers, tests
--- of the numbers below n, a loop, lists, masks, bytes. They rest on the kit's library, as all of this crate.
--- Assumes nothing.
+-- of the numbers below n and sums over them, a loop, lists, masks, bytes. They rest on the kit's library, as all of
+-- this crate. Assumes nothing.
 use mathlib.Core.Path.{_≡_}
 use mathlib.Core.Bool.{Bool, true, false, not, _&&_, _||_}
 use mathlib.Core.List.{List, [], _∷_, _++_}
@@ -44,7 +44,7 @@ abbrev pub value-in : {A : Type 0} → (A → ℕ) → Reply A → ℕ → ℕ
 value-in f (gives a) before = f a
 value-in f (refuses n) before = before
 
--- ---- tests of the numbers 0, .., n - 1
+-- ---- tests of the numbers 0, .., n - 1, and sums over them
 -- All pass.
 unfoldable pub every : ℕ → (ℕ → Bool) → Bool
 every zero f = true
@@ -58,6 +58,11 @@ some n f = not (every n (λ i. not (f i)))
 unfoldable pub tally : ℕ → (ℕ → Bool) → ℕ
 tally zero f = 0
 tally (suc n) f = pick (f n) (suc (tally n f)) (tally n f)
+
+-- The sum of f 0, f 1, .., f (n - 1).
+unfoldable pub sum : ℕ → (ℕ → ℕ) → ℕ
+sum zero f = 0
+sum (suc n) f = sum n f + f n
 
 -- The first of i, i + 1, .. (k of them) that passes; i + k where none does.
 unfoldable pub first-from : ℕ → ℕ → (ℕ → Bool) → ℕ

@@ -4,10 +4,10 @@
 -- Settle and History. Assumes nothing.
 use mathlib.Core.Bool.{Bool, true, false}
 use mathlib.Core.List.{List, []}
-use Prim.Native.Nat.{ℕ, zero, suc, _+_, _-_}
+use Prim.Native.Nat.{ℕ, _-_}
 use lib.Dec.{eqb}
 use lib.ListN.{length, take, drop}
-use Rattle.definitions.specs.General.{needs, unless-refused, Reply, reply}
+use Rattle.definitions.specs.General.{needs, unless-refused, Reply, reply, sum}
 use Rattle.definitions.specs.World.{size, fifo-length, causal-length, fifo, causal, order, addr, State, encode, view, is-process, is-message}
 use Rattle.definitions.specs.Sound.{sound}
 use Rattle.definitions.specs.Setup.{setup-refusal, made}
@@ -93,10 +93,9 @@ unfoldable pub previewed-words : List ℕ → List ℕ → List ℕ → List ℕ
 previewed-words w bytes second =
     unless-refused (preview-refusal w bytes second) (stepped-words w bytes) second
 
--- By how much the FIFO or the causal logs of the processes below n are longer in t than in s, all together.
-unfoldable pub log-growth : ℕ → Bool → State → State → ℕ
-log-growth zero log s t = 0
-log-growth (suc p) log s t = log-growth p log s t + (log-length t p log - log-length s p log)
+-- By how much the FIFO or the causal logs of all processes together are longer in t than in s.
+abbrev pub log-growth : Bool → State → State → ℕ
+log-growth log s t = sum (s size) (λ p. log-length t p log - log-length s p log)
 
 -- "how many FIFO and how many causal deliveries the step adds": s is the state before it, t the one after it.
 pub record NewDeliveries : Type 0 where
@@ -105,8 +104,8 @@ pub record NewDeliveries : Type 0 where
 
 abbrev pub new-deliveries : State → State → NewDeliveries
 new-deliveries s t = record {
-  fifo-number = log-growth (s size) false s t;
-  causal-number = log-growth (s size) true s t;
+  fifo-number = log-growth false s t;
+  causal-number = log-growth true s t;
 }
 
 unfoldable pub preview-reply : List ℕ → List ℕ → List ℕ → Reply NewDeliveries

@@ -1,23 +1,23 @@
 -- What a step does to the logs. At its process they go on behind what they held, at every other process they stay; so
 -- the growth of all logs is that of the logs of its process. A step without a cascade leaves them all. Assumes nothing.
-use mathlib.Core.Path.{_≡_, refl, sym, ap, ap₂, _∙_, subst}
+use mathlib.Core.Path.{_≡_, refl, ap, _∙_}
 use mathlib.Core.Bool.{Bool, true, false}
 use mathlib.Core.Logic.{_≢_}
-use Prim.Native.Nat.{ℕ, zero, suc, _+_, _-_, _≤_, _<_}
-use native.Mathlib.Decide.{ℕ-discrete}
-use native.Mathlib.Nat.{not-suc-le-zero}
+use Prim.Native.Nat.{ℕ, _-_, _≤_, _<_}
 use native.Mathlib.Omega.{arith}
 use borrow.Author.Tests.{ne-eqb}
-use Rattle.definitions.specs.World.{Cell, size, count, trust, fifo-length, causal-length, fifo, causal, State, put}
+use Rattle.definitions.specs.World.{Cell, size, count, trust, fifo-length, causal-length, fifo, causal, State, put, encode, view}
 use Rattle.definitions.specs.Machine.{with-tables, ready, deliverable-at, causal-one, causal-all, fifo-one, cascade, raised, stamped, numbered, posted, multicast, leave, received, arrival, trust-set, crash}
 use Rattle.definitions.specs.Steps.{Step, multicasts, arrives, loses, trusts, crashes, malformed, refusal, accepted, step}
 use Rattle.definitions.specs.Words.{log-length, log-growth}
 use Rattle.definitions.specs.Previews.{step-process, has-cascade}
 use Rattle.base.specs.Tests.{pick-no, clash}
 use Rattle.base.specs.Loop.{loop-keeps}
-use Rattle.world.specs.Local.{Own, arrival-local, trust-local}
+use Rattle.base.specs.Sums.{sum-one}
+use Rattle.world.specs.Layout.{get-encode}
+use Rattle.world.specs.Local.{arrival-local, trust-local}
 use Rattle.world.specs.StepLaws.{accepted-multicast, accepted-arrival, accepted-loss, accepted-trust, accepted-crash}
-use Rattle.effects.specs.Views.{Messages, messages, Process, process, process-local, Scene}
+use Rattle.effects.specs.Views.{Process, process, process-local, Scene}
 use Rattle.effects.specs.Cascade.{at-place, fifo-started, fifo-started-here, fifo-delivered, causal-delivered, causal-one-here, fifo-middle, fifo-one-scene}
 use Rattle.effects.specs.Arrival.{received-process}
 
@@ -26,6 +26,11 @@ use Rattle.effects.specs.Arrival.{received-process}
 abbrev pub log-item : ℕ → Bool → ℕ → Cell
 log-item p true i = causal p i
 log-item p false i = fifo p i
+
+-- its length, read off the words of a state
+pub encoded-length : (s : State) (p : ℕ) → p < 16 → (log : Bool) → log-length (view (encode s)) p log ≡ log-length s p log
+encoded-length s p l true = get-encode s (causal-length p) l
+encoded-length s p l false = get-encode s (fifo-length p) l
 
 -- it goes on from s to t at p: what it held it holds
 pub record Onward (s t : State) (p : ℕ) (log : Bool) : Type 0 where
@@ -158,47 +163,13 @@ step-stays s (crashes p) r n log = no-cascade-stays s (crashes p) refl r log
 step-stays s malformed r n log = no-cascade-stays s malformed refl r log
 
 -- ---- the growth of all logs
--- by the lengths
-pub growth-same : (n : ℕ) (log : Bool) (s t u v : State)
-    → ((r : ℕ) → r < n → log-length u r log ≡ log-length s r log)
-    → ((r : ℕ) → r < n → log-length v r log ≡ log-length t r log) → log-growth n log u v ≡ log-growth n log s t
-unfolding log-growth
-growth-same zero log s t u v a b = refl
-growth-same (suc n) log s t u v a b =
-    ap₂ (λ (x y : ℕ). x + y) (growth-same n log s t u v (λ r l. a r (omega arith)) (λ r l. b r (omega arith)))
-    (ap₂ (λ (x y : ℕ). x - y) (b n (omega arith)) (a n (omega arith)))
-
--- where none is longer
-pub growth-none : (n : ℕ) (log : Bool) (s t : State)
-    → ((r : ℕ) → r < n → log-length t r log ≡ log-length s r log) → log-growth n log s t ≡ 0
-unfolding log-growth
-growth-none zero log s t h = refl
-growth-none (suc n) log s t h =
-    let z = growth-none n log s t (λ r l. h r (omega arith)) in omega (arith, z, h n (omega arith))
-
--- where only that of p is
-growth-one : (n p : ℕ) (log : Bool) (s t : State) → p < n
-    → ((r : ℕ) → p ≢ r → log-length t r log ≡ log-length s r log)
-    → log-growth n log s t ≡ log-length t p log - log-length s p log
-unfolding log-growth
-growth-one zero p log s t l h = absurd (not-suc-le-zero l)
-growth-one (suc n) p log s t l h = elim (ℕ-discrete p n) [
-  | yes e ↦
-      let z = growth-none n log s t (λ r k. h r (omega arith)) in
-      let y : log-growth n log s t + (log-length t n log - log-length s n log)
-      ≡ log-length t n log - log-length s n log = omega (arith, z) in
-      y ∙ ap (λ (x : ℕ). log-length t x log - log-length s x log) (sym e)
-  | no e ↦
-      let z = growth-one n p log s t (omega (arith, l, e)) h in
-      omega (arith, z, h n e)
-]
-
--- so after a step it is that of the process of the step
-pub step-growth : (s : State) (x : Step) (n : ℕ) (log : Bool) → step-process x < n
-    → log-growth n log s (step s x)
+-- after a step it is that of the process of the step
+pub step-growth : (s : State) (x : Step) (log : Bool) → step-process x < s size
+    → log-growth log s (step s x)
     ≡ log-length (step s x) (step-process x) log - log-length s (step-process x) log
-step-growth s x n log l =
-    growth-one n (step-process x) log s (step s x) l (λ r d. step-stays s x r d log .as-long)
+step-growth s x log l =
+    sum-one (s size) (step-process x) (λ r. log-length (step s x) r log - log-length s r log) l
+    (λ r d. let e = step-stays s x r d log .as-long in omega arith)
 
 -- the process of a step that is taken is one
 pub taken-process : (s : State) (x : Step) → accepted s x ≡ true → step-process x < s size

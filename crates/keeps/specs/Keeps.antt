@@ -1,7 +1,7 @@
 -- Every call keeps a world sound: making one, every step, whatever is given as a step, settle, a list of
 -- these; on states and on words. This file gathers what the files below it prove: a fresh world is sound, and
 -- each of the five steps, where it is not refused, keeps soundness. Assumes nothing.
-use mathlib.Core.Path.{_≡_, refl, sym, ap, subst}
+use mathlib.Core.Path.{_≡_, refl, sym, ap, _∙_, subst}
 use mathlib.Core.Bool.{Bool, true, false}
 use mathlib.Core.List.{List, [], _∷_}
 use Prim.Native.Nat.{ℕ}
@@ -19,7 +19,7 @@ use Rattle.definitions.specs.Settle.{Choice, letter, lowest, settle-from}
 use Rattle.definitions.specs.History.{Run, Item, given, settling, taken, tick, settles, act, run}
 use Rattle.definitions.specs.Words.{needs-world, making-refusal, made-words, step-words, step-refusal, stepped-words, settle-words, settled-words}
 use Rattle.base.specs.Refusals.{needs-none}
-use Rattle.world.specs.Layout.{length-encode}
+use Rattle.world.specs.Layout.{length-encode, encode-view}
 use Rattle.world.specs.SoundLaws.{Sound, size-high, count-high, sound-facts, facts-sound, sound-words}
 use Rattle.world.specs.StepLaws.{accepted-multicast, accepted-arrival, accepted-loss, accepted-trust, moves-taken, lowest-moves}
 use Rattle.world.specs.SettleLaws.{settle, settle-keeps}
@@ -105,9 +105,24 @@ pub record SoundWords (w : List ℕ) : Type 0 where
   pub long : length w ≡ 20480
   pub reads : Sound (view w)
 
--- they are taken
-pub sound-words-taken : (w : List ℕ) → SoundWords w → needs-world w 0 ≡ 0
-sound-words-taken w h = rw (eq-eqb (length w) 20480 (h .long), facts-sound (view w) (h .reads))
+-- they are taken, and what comes after 1 and 2 decides; of a step, what it is refused for
+pub sound-words-taken : (w : List ℕ) → SoundWords w → (n : ℕ) → needs-world w n ≡ n
+sound-words-taken w h n = rw (eq-eqb (length w) 20480 (h .long), facts-sound (view w) (h .reads))
+
+pub sound-refusal : (w bytes : List ℕ) → SoundWords w → step-refusal w bytes ≡ refusal (view w) (read bytes)
+unfolding step-refusal
+sound-refusal w bytes h = sound-words-taken w h (refusal (view w) (read bytes))
+
+-- and the words after what is given as a step
+pub sound-stepped : (w bytes : List ℕ) → SoundWords w → encode (after (view w) (read bytes)) ≡ stepped-words w bytes
+unfolding stepped-words after
+sound-stepped w bytes h =
+    choice (accepted (view w) (read bytes))
+    ∙ ap (λ (n : ℕ). unless-refused n (step-words w (read bytes)) w) (sym (sound-refusal w bytes h))
+  where
+    choice : (b : Bool) → encode (pick b (step (view w) (read bytes)) (view w)) ≡ pick b (step-words w (read bytes)) w
+    choice true = refl
+    choice false = encode-view w (h .long)
 
 -- words that are taken are such
 pub taken-sound-words : (w : List ℕ) → needs-world w 0 ≡ 0 → SoundWords w
@@ -117,7 +132,7 @@ taken-sound-words w e =
     record { long = eqb-true (length w) 20480 (a .0); reads = sound-facts (view w) (b .0) }
 
 -- the words of a sound state
-encoded : (s : State) → Sound s → SoundWords (encode s)
+pub encoded : (s : State) → Sound s → SoundWords (encode s)
 encoded s h = record { long = length-encode s; reads = sound-words (encode s) s refl h }
 
 -- the words of a world just made
@@ -145,7 +160,7 @@ pub settled-words-sound : (w : List ℕ) (b : ℕ) → SoundWords w → SoundWor
 unfolding settled-words settle-words step
 settled-words-sound w b h =
     subst SoundWords
-    (sym (ap (λ (n : ℕ). unless-refused n (settle-words w b .world) w) (sound-words-taken w h)))
+    (sym (ap (λ (n : ℕ). unless-refused n (settle-words w b .world) w) (sound-words-taken w h 0)))
     (settle-keeps (λ u. lowest (view u)) (λ u k m q p. encode (arrival (view u) k m q p)) SoundWords
     (λ u k m q p e d. encoded (arrival (view u) k m q p)
     (step-sound (view u) (arrives k m q p) (lowest-able (view u) k m q p e) (d .reads))) b 0 w h)

@@ -5,21 +5,18 @@ use mathlib.Core.Path.{_≡_, refl, sym, ap, ap₂, _∙_, subst, subst₂}
 use mathlib.Core.Bool.{Bool, true, false}
 use mathlib.Core.List.{List, [], _∷_}
 use Prim.Native.Nat.{ℕ, zero, suc}
-use native.Mathlib.Omega.{arith}
-use lib.Dec.{ltb}
 use borrow.Author.Tests.{ltb-true}
-use Rattle.definitions.specs.General.{pick, needs, gives, tabulate}
+use Rattle.definitions.specs.General.{pick, gives, tabulate}
 use Rattle.definitions.specs.World.{size, causal-length, State, encode, view, is-process}
 use Rattle.definitions.specs.Setup.{fresh, made}
 use Rattle.definitions.specs.Machine.{arrival}
 use Rattle.definitions.specs.Steps.{Step, multicasts, arrives, loses, trusts, crashes, malformed, read, refusal, accepted, step}
 use Rattle.definitions.specs.Settle.{moves, receiver, origin, kind, movable, letter-of, lowest}
 use Rattle.definitions.specs.History.{Event, grown, gained, casted, Run, Item, given, settling, taken, tick, settles, act, run}
-use Rattle.definitions.specs.Words.{making-refusal, step-refusal, settle-reply, log-refusal, log-length, log-words, on-words, started-words}
+use Rattle.definitions.specs.Words.{making-refusal, step-refusal, settle-reply, log-length, log-words, on-words, started-words}
 use Rattle.definitions.specs.OrderNumbers.{erased, erased-words, erased-step, erased-bytes, erased-items, Apart}
 use Rattle.world.specs.Layout.{get-encode, encode-ext}
 use Rattle.world.specs.SoundLaws.{Sound}
-use Rattle.world.specs.Calls.{refused-same}
 use Rattle.world.specs.SettleLaws.{settle, settle-related}
 use Rattle.world.specs.Runs.{on-states, started}
 use Rattle.keeps.specs.Keeps.{run-sound, fresh-sound}

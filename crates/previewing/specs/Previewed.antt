@@ -8,16 +8,16 @@ use native.Mathlib.Omega.{arith}
 use borrow.Author.Tests.{eq-eqb}
 use lib.ListN.{length}
 use Rattle.definitions.specs.General.{gives, refuses}
-use Rattle.definitions.specs.World.{size, fifo-length, causal-length, State, view}
+use Rattle.definitions.specs.World.{size, State, view}
 use Rattle.definitions.specs.Steps.{read, refusal, accepted, step}
-use Rattle.definitions.specs.Words.{step-words, step-refusal, stepped-words, log-length, log-growth, preview-refusal, previewed-words, NewDeliveries, new-deliveries, preview-reply}
+use Rattle.definitions.specs.Words.{step-words, stepped-words, log-length, log-growth, preview-refusal, previewed-words, new-deliveries, preview-reply}
 use Rattle.definitions.specs.Previews.{step-process}
 use Rattle.base.specs.Refusals.{refused-reply}
-use Rattle.world.specs.Layout.{length-encode, get-encode}
+use Rattle.world.specs.Layout.{length-encode}
 use Rattle.world.specs.Calls.{preview-judged, preview-taken, preview-refused}
-use Rattle.world.specs.SoundLaws.{Sound, size-high, count-high, fifo-length-high, causal-length-high, facts-sound}
-use Rattle.keeps.specs.Keeps.{step-sound}
-use Rattle.effects.specs.Logs.{step-onward, step-growth, taken-process}
+use Rattle.world.specs.SoundLaws.{size-high, count-high, fifo-length-high, causal-length-high}
+use Rattle.keeps.specs.Keeps.{step-sound, SoundWords, sound-refusal}
+use Rattle.effects.specs.Logs.{encoded-length, step-onward, step-growth, taken-process}
 
 -- what is refused is not shown
 pub not-shown : (w bytes second : List ℕ) (n : ℕ) → (n ≡ 0 → ⊥) → n ≡ preview-refusal w bytes second
@@ -30,17 +30,12 @@ not-shown w bytes second n some e = (
 
 -- ---- a sound world, and a second slice that is as long
 pub record Lent (w second : List ℕ) : Type 0 where
-  pub long : length w ≡ 20480
+  pub world : SoundWords w
   pub second-long : length second ≡ 20480
-  pub reads : Sound (view w)
 
 module _ (w bytes second : List ℕ) (h : Lent w second) where
-  judged : step-refusal w bytes ≡ refusal (view w) (read bytes)
-  unfolding step-refusal
-  judged = rw (eq-eqb (length w) 20480 (h .long), facts-sound (view w) (h .reads))
-
   shown : preview-refusal w bytes second ≡ refusal (view w) (read bytes)
-  shown = preview-judged w bytes second (h .second-long) ∙ judged
+  shown = preview-judged w bytes second (h .second-long) ∙ sound-refusal w bytes (h .world)
 
   pub refused : (n : ℕ) → (n ≡ 0 → ⊥) → n ≡ refusal (view w) (read bytes)
       → (refuses n ≡ preview-reply w bytes second) × (second ≡ previewed-words w bytes second)
@@ -67,16 +62,15 @@ module _ {w bytes second u : List ℕ} {p : ℕ} (h : Done w bytes second u p) w
   in-size = taken-process s (read bytes) accepts
 
   low : p < 16
-  low = omega (arith, h .at, in-size, size-high s (h .lent .reads))
+  low = omega (arith, h .at, in-size, size-high s (h .lent .world .reads))
 
   -- the lengths of its logs
   lengths : (log : Bool) → log-length (view u) p log ≡ log-length t p log
-  lengths true = ap (λ (z : List ℕ). view z (causal-length p)) (h .leaves) ∙ get-encode t (causal-length p) low
-  lengths false = ap (λ (z : List ℕ). view z (fifo-length p)) (h .leaves) ∙ get-encode t (fifo-length p) low
+  lengths log = ap (λ (z : List ℕ). log-length (view z) p log) (h .leaves) ∙ encoded-length t p low log
 
   short : (log : Bool) → log-length t p log ≤ 64
   short log =
-      let z = step-sound s (read bytes) accepts (h .lent .reads) in
+      let z = step-sound s (read bytes) accepts (h .lent .world .reads) in
       let n = count-high t z in
       let f = fifo-length-high t z p low in
       elim log [
@@ -90,7 +84,7 @@ module _ {w bytes second u : List ℕ} {p : ℕ} (h : Done w bytes second u p) w
       × (log-length s p log ≤ log-length (view u) p log) × (log-length (view u) p log ≤ 64)
   countable log =
       let o : log-length s p log ≤ log-length t p log = rw (h .at) (step-onward s (read bytes) log .longer) in (
-        h .lent .long,
+        h .lent .world .long,
         ap length (h .leaves) ∙ length-encode t,
         low,
         omega (arith, lengths log, o),
@@ -98,11 +92,11 @@ module _ {w bytes second u : List ℕ} {p : ℕ} (h : Done w bytes second u p) w
       )
 
   -- and their growth is that of all logs
-  counted : (log : Bool) → log-length (view u) p log - log-length s p log ≡ log-growth (s size) log s t
+  counted : (log : Bool) → log-length (view u) p log - log-length s p log ≡ log-growth log s t
   counted log =
       ap (λ (n : ℕ). n - log-length s p log) (lengths log)
       ∙ ap (λ (q : ℕ). log-length t q log - log-length s q log) (h .at)
-      ∙ sym (step-growth s (read bytes) (s size) log in-size)
+      ∙ sym (step-growth s (read bytes) log in-size)
 
   pub taken : {f c : ℕ} → f ≡ log-length (view u) p false - log-length s p false
       → c ≡ log-length (view u) p true - log-length s p true
@@ -110,7 +104,7 @@ module _ {w bytes second u : List ℕ} {p : ℕ} (h : Done w bytes second u p) w
       × (u ≡ previewed-words w bytes second)
   unfolding preview-reply stepped-words
   taken a b =
-      let j = judged w bytes second (h .lent) in
+      let j = sound-refusal w bytes (h .lent .world) in
       let z = shown w bytes second (h .lent) in (
         ap₂ (λ (x y : ℕ). gives (record { fifo-number = x; causal-number = y })) (a ∙ counted false)
             (b ∙ counted true)

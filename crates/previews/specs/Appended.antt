@@ -2,7 +2,7 @@
 -- other process it stays, as the call that reads logs gives them. Without a cascade the numbers are 0. Assumes nothing.
 use mathlib.Core.Path.{_≡_, refl, sym, ap, ap₂, _∙_, subst, subst₂, fun-ext}
 use mathlib.Core.Bool.{Bool, true, false}
-use mathlib.Core.List.{List, [], _++_}
+use mathlib.Core.List.{List, _++_}
 use mathlib.Core.Logic.{_≢_}
 use Prim.Native.Nat.{ℕ, _-_, _≤_, _<_}
 use native.Mathlib.Omega.{arith}
@@ -10,18 +10,18 @@ use lib.Dec.{ltb}
 use lib.ListN.{length, take, drop, length-take, length-drop, take-append-drop}
 use lib.Seq.{getD-take}
 use borrow.Author.Tests.{ltb-true}
-use Rattle.definitions.specs.General.{needs, gives, tabulate}
+use Rattle.definitions.specs.General.{gives, tabulate}
 use Rattle.definitions.specs.World.{size, State, encode, view, is-process}
 use Rattle.definitions.specs.Steps.{Step, read, accepted, step}
-use Rattle.definitions.specs.Words.{step-words, log-length, log-refusal, log-words, previewed-words, log-growth, NewDeliveries, new-deliveries, preview-reply}
+use Rattle.definitions.specs.Words.{step-words, log-length, log-words, previewed-words, log-growth, NewDeliveries, new-deliveries, preview-reply}
 use Rattle.definitions.specs.Previews.{step-process, has-cascade, Appends}
+use Rattle.base.specs.Sums.{sum-none}
 use Rattle.base.specs.Tabulate.{length-tabulate, getD-tabulate, is-tabulate}
-use Rattle.world.specs.Layout.{get-encode, encode-view}
+use Rattle.world.specs.Layout.{encode-view}
 use Rattle.world.specs.SoundLaws.{Sound}
-use Rattle.world.specs.Calls.{refused-same}
 use Rattle.keeps.specs.Keeps.{step-sound}
 use Rattle.effects.specs.Holding.{step-lasting}
-use Rattle.effects.specs.Logs.{log-item, step-onward, step-stays, no-cascade-stays, growth-none, step-growth, taken-process}
+use Rattle.effects.specs.Logs.{log-item, step-onward, step-stays, no-cascade-stays, step-growth, taken-process}
 use Rattle.carried.specs.Calls.{log-carried, log-absent}
 use Rattle.previews.specs.Shown.{shown}
 
@@ -34,8 +34,10 @@ taken-front n k f g l h =
 
 -- ---- a step without a cascade
 none-longer : (s : State) (x : Step) → has-cascade x ≡ false → (log : Bool)
-    → log-growth (s size) log s (step s x) ≡ 0
-none-longer s x c log = growth-none (s size) log s (step s x) (λ r _. no-cascade-stays s x c r log .as-long)
+    → log-growth log s (step s x) ≡ 0
+none-longer s x c log =
+    sum-none (s size) (λ r. log-length (step s x) r log - log-length s r log)
+    (λ r _. let e = no-cascade-stays s x c r log .as-long in omega arith)
 
 -- ---- a step that is taken, on a sound state
 module _ (s : State) (h : Sound s) (x : Step) (e : accepted s x ≡ true) where
@@ -70,12 +72,12 @@ module _ (s : State) (h : Sound s) (x : Step) (e : accepted s x ≡ true) where
   new-behind : Bool → List ℕ
   new-behind log = drop (log-length s (step-process x) log) (new-log log)
 
-  new-number : (log : Bool) → length (new-behind log) ≡ log-growth (s size) log s (step s x)
+  new-number : (log : Bool) → length (new-behind log) ≡ log-growth log s (step s x)
   unfolding new-behind
   new-number log =
       length-drop (log-length s (step-process x) log) (new-log log)
       ∙ ap (λ (n : ℕ). n - log-length s (step-process x) log) (ap length (new-items log) ∙ length-tabulate _ _)
-      ∙ sym (step-growth s x (s size) log here)
+      ∙ sym (step-growth s x log here)
 
   -- at another process it stays
   log-stays : (r : ℕ) (log : Bool) → step-process x ≢ r

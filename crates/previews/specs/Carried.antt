@@ -3,21 +3,21 @@
 use mathlib.Core.Path.{_≡_, sym, ap, ap₂, _∙_}
 use mathlib.Core.Bool.{Bool, true, false}
 use mathlib.Core.List.{List}
-use Prim.Native.Nat.{ℕ, _<_}
+use Prim.Native.Nat.{ℕ, _-_, _<_}
 use native.Mathlib.Omega.{arith}
 use lib.ListN.{length}
 use borrow.Author.Tests.{eq-eqb}
-use Rattle.definitions.specs.General.{gives, reply}
+use Rattle.definitions.specs.General.{gives, reply, sum}
 use Rattle.definitions.specs.World.{size, fifo-length, causal-length, State, encode, view}
 use Rattle.definitions.specs.Setup.{setup-refusal}
 use Rattle.definitions.specs.Steps.{read, refusal, step}
 use Rattle.definitions.specs.History.{Run, Item, run}
 use Rattle.definitions.specs.Words.{log-length, preview-refusal, log-growth, NewDeliveries, new-deliveries, preview-reply, on-words, started-words}
+use Rattle.base.specs.Sums.{sum-cong}
 use Rattle.world.specs.SoundLaws.{Sound, size-high}
 use Rattle.world.specs.Calls.{preview-judged}
 use Rattle.world.specs.Runs.{on-states, started}
 use Rattle.keeps.specs.Keeps.{fresh-sound, run-sound}
-use Rattle.effects.specs.Logs.{growth-same}
 use Rattle.carried.specs.Same.{Agree, same}
 use Rattle.carried.specs.Calls.{making-carried, view-agree, step-agree, refusal-carried}
 use Rattle.carried.specs.Carried.{run-carried, start-carried}
@@ -49,13 +49,14 @@ module _ (s : State) (h : Sound s) (bytes second : List ℕ) (long : length seco
       after : Agree (step s (read bytes)) (step back (read bytes))
       after = step-agree before (read bytes) (eq-eqb (refusal s (read bytes)) 0 ok)
 
-      grown : (log : Bool) → log-growth (back size) log back (step back (read bytes))
-          ≡ log-growth (s size) log s (step s (read bytes))
+      grown : (log : Bool) → log-growth log back (step back (read bytes)) ≡ log-growth log s (step s (read bytes))
       grown log =
-          ap (λ (n : ℕ). log-growth n log back (step back (read bytes))) (sym (same before size tt))
-          ∙ growth-same (s size) log s (step s (read bytes)) back (step back (read bytes))
-          (λ r l. length-agree before r log (omega (arith, size-high s h)))
-          (λ r l. length-agree after r log (omega (arith, size-high s h)))
+          ap (λ (n : ℕ). sum n (λ r. log-length (step back (read bytes)) r log - log-length back r log))
+          (sym (same before size tt))
+          ∙ sum-cong (s size) (λ r. log-length (step back (read bytes)) r log - log-length back r log)
+          (λ r. log-length (step s (read bytes)) r log - log-length s r log)
+          (λ r l. let low : r < 16 = omega (arith, size-high s h) in
+          ap₂ (λ (x y : ℕ). x - y) (length-agree after r log low) (length-agree before r log low))
 
 -- ---- after a list of items
 -- the state is sound

@@ -8,8 +8,8 @@ use mathlib.Core.List.{List, [], _∷_, _++_}
 use Prim.Native.Nat.{ℕ, _+_}
 use native.Mathlib.Decide.{ℕ-discrete}
 use lib.ListN.{length}
-use Rattle.definitions.specs.General.{gives, refuses, every, some, first-from, absent, chosen, loop, bit, with, without, mask-of, only}
-use Rattle.definitions.specs.World.{size, State, put, has-group}
+use Rattle.definitions.specs.General.{gives, refuses, sum, every, some, first-from, absent, chosen, loop, bit, with, without, mask-of, only}
+use Rattle.definitions.specs.World.{State, put, has-group}
 use Rattle.definitions.specs.Setup.{fresh, setup-bits, setup-group, good-setup, setup-refusal, made}
 use Rattle.definitions.specs.Machine.{with-tables, ready, deliverable, deliverable-at, merge, causal-one, causal-all, appended, raised-next, due, send-ok, send-oks, fifo-one, cascade, raised, stamped, numbered, posted, multicast, leave, mark, hold, arrival, trust-set, crash}
 use Rattle.definitions.specs.Steps.{read, good-mask, refusal, step}
@@ -52,8 +52,8 @@ end c = run on-states (started (c .setup)) (c .items) .now
 abbrev Passes : Case → Type 0
 Passes c =
     (setup-refusal (c .setup) ≡ 0) × (refusal (end c) (read (c .bytes)) ≡ 0)
-    × (log-growth (end c size) false (end c) (step (end c) (read (c .bytes))) ≡ c .fifo)
-    × (log-growth (end c size) true (end c) (step (end c) (read (c .bytes))) ≡ c .causal)
+    × (log-growth false (end c) (step (end c) (read (c .bytes))) ≡ c .fifo)
+    × (log-growth true (end c) (step (end c) (read (c .bytes))) ≡ c .causal)
 
 -- what a caller sees of it, on any lent words
 abbrev Answers : Case → Type 0
@@ -151,7 +151,7 @@ all-pass : Passes trusted × Passes both × Passes overtaken × Passes catches-u
 unfolding ℕ-discrete every some first-from absent chosen loop bit with without mask-of only put fresh setup-bits
     setup-group good-setup setup-refusal made with-tables ready deliverable deliverable-at merge causal-one causal-all
     appended raised-next due send-ok send-oks fifo-one cascade raised stamped numbered posted multicast leave mark hold
-    arrival trust-set crash read has-group good-mask refusal step tick act run log-growth
+    arrival trust-set crash read has-group good-mask refusal step tick act run sum
 all-pass = (
   (refl, refl, refl, refl),
   (refl, refl, refl, refl),

@@ -1,21 +1,20 @@
 -- The call that gives the length of a log gives as many as the call that reads it shows. So at the process of a
 -- previewed step its answers grow by the two numbers. Assumes nothing.
-use mathlib.Core.Path.{_≡_, refl, sym, ap, _∙_, subst}
+use mathlib.Core.Path.{_≡_, sym, ap, _∙_, subst}
 use mathlib.Core.Bool.{Bool, true, false}
 use mathlib.Core.List.{List}
 use Prim.Native.Nat.{ℕ, _+_, _<_}
 use native.Mathlib.Omega.{arith}
 use lib.ListN.{length, length-append}
-use borrow.Author.Tests.{eq-eqb, lt-ltb}
-use Rattle.definitions.specs.General.{gives}
-use Rattle.definitions.specs.World.{size, encode, view}
+use borrow.Author.Tests.{lt-ltb}
+use Rattle.definitions.specs.General.{needs, gives}
+use Rattle.definitions.specs.World.{size, view, is-process}
 use Rattle.definitions.specs.Steps.{read, step}
 use Rattle.definitions.specs.Words.{log-length, log-refusal, log-words, length-reply, previewed-words, NewDeliveries, preview-reply}
 use Rattle.definitions.specs.Previews.{step-process}
 use Rattle.base.specs.Tabulate.{length-tabulate}
-use Rattle.world.specs.Layout.{get-encode, length-encode, encode-view}
-use Rattle.world.specs.SoundLaws.{facts-sound, sound-words}
-use Rattle.keeps.specs.Keeps.{SoundWords, step-sound}
+use Rattle.world.specs.Layout.{get-encode, encode-view}
+use Rattle.keeps.specs.Keeps.{SoundWords, sound-words-taken, encoded, step-sound}
 use Rattle.effects.specs.Holding.{step-lasting}
 use Rattle.effects.specs.Logs.{log-item, taken-process}
 use Rattle.carried.specs.Calls.{log-carried}
@@ -27,8 +26,7 @@ pub length-read : (w : List ℕ) → SoundWords w → (p : ℕ) → p < view w s
     → length-reply w p log ≡ gives (length (log-words w p log))
 unfolding length-reply log-refusal
 length-read w h p l log =
-    rw (eq-eqb (length w) 20480 (h .long), facts-sound (view w) (h .reads), lt-ltb p (view w size) l)
-    (ap gives (sym items))
+    rw (sound-words-taken w h (needs 5 (is-process (view w) p) 0), lt-ltb p (view w size) l) (ap gives (sym items))
   where
     items : length (log-words w p log) ≡ log-length (view w) p log
     items =
@@ -52,10 +50,7 @@ module _ (w bytes second : List ℕ) (d : NewDeliveries) (e : preview-reply w by
       let h = shown w bytes second d e in
       let t = step (view w) (read bytes) in
       subst (λ (u : List ℕ). SoundWords u × (at < view u size)) (sym (h .words)) (
-        record {
-          long = length-encode t;
-          reads = sound-words (encode t) t refl (step-sound (view w) (read bytes) (h .taken) (h .lent .reads));
-        },
+        encoded t (step-sound (view w) (read bytes) (h .taken) (h .lent .reads)),
         omega (
           arith,
           get-encode t size tt,

@@ -8,7 +8,7 @@ use native.Mathlib.Omega.{arith}
 use lib.Dec.{eqb}
 use lib.ListN.{length}
 use borrow.Author.Tests.{eqb-true, eq-eqb}
-use Rattle.definitions.specs.General.{pick, gives}
+use Rattle.definitions.specs.General.{pick, gives, sum}
 use Rattle.definitions.specs.World.{size, causal-length, causal, State, encode, view}
 use Rattle.definitions.specs.Sound.{sound}
 use Rattle.definitions.specs.Steps.{Step, multicasts, arrives, loses, trusts, crashes, malformed, read, refusal, accepted, step}
@@ -16,11 +16,11 @@ use Rattle.definitions.specs.History.{Event, deliveries, gained, casted, Run, g
 use Rattle.definitions.specs.Words.{needs-world, step-refusal, stepped-words, step-words, preview-refusal, previewed-words, log-growth, NewDeliveries, new-deliveries, preview-reply, on-words}
 use Rattle.definitions.specs.Previews.{gots, AsStep}
 use Rattle.base.specs.Refusals.{needs-none, reply-gives, refused-reply}
-use Rattle.world.specs.Layout.{get-encode}
+use Rattle.base.specs.Sums.{sum-cong}
 use Rattle.world.specs.SoundLaws.{Sound, size-high, sound-facts}
 use Rattle.world.specs.Calls.{preview-judged, preview-unjudged, preview-taken, preview-refused, tick-words}
 use Rattle.keeps.specs.Keeps.{SoundWords, sound-words-taken}
-use Rattle.effects.specs.Logs.{growth-same}
+use Rattle.effects.specs.Logs.{encoded-length}
 
 -- ---- the preview, and then the step
 pub as-step : (w bytes second : List ℕ) → AsStep w bytes second
@@ -66,8 +66,9 @@ gots-deliveries p a zero log es = omega arith
 gots-deliveries p a (suc n) log es = omega (arith, gots-deliveries p a n log es)
 
 -- those that the causal logs have gained, too
-gots-gained : (n : ℕ) (s t : State) (es : List Event) → gots (gained n s t es) ≡ gots es + log-growth n true s t
-unfolding gained log-growth
+gots-gained : (n : ℕ) (s t : State) (es : List Event)
+    → gots (gained n s t es) ≡ gots es + sum n (λ p. t (causal-length p) - s (causal-length p))
+unfolding gained sum
 gots-gained zero s t es = omega arith
 gots-gained (suc p) s t es =
     let k = gots-deliveries p (s (causal-length p)) (t (causal-length p) - s (causal-length p)) (λ i. t (causal p i))
@@ -85,10 +86,11 @@ gots-casted (crashes p) s es = refl
 gots-casted malformed s es = refl
 
 -- the words after the step are read as the state after it, as far as the causal logs go
-read-growth : (s t : State) → Sound s → log-growth (s size) true s (view (encode t)) ≡ log-growth (s size) true s t
+read-growth : (s t : State) → Sound s → log-growth true s (view (encode t)) ≡ log-growth true s t
 read-growth s t h =
-    growth-same (s size) true s t s (view (encode t)) (λ r l. refl)
-    (λ r l. get-encode t (causal-length r) (omega (arith, size-high s h)))
+    sum-cong (s size) (λ p. view (encode t) (causal-length p) - s (causal-length p))
+    (λ p. t (causal-length p) - s (causal-length p))
+    (λ p l. ap (λ (n : ℕ). n - s (causal-length p)) (encoded-length t p (omega (arith, size-high s h)) true))
 
 module _ (r : Run (List ℕ)) (bytes second : List ℕ) (d : NewDeliveries)
     (e : preview-reply (r .now) bytes second ≡ gives d) where
@@ -106,7 +108,7 @@ module _ (r : Run (List ℕ)) (bytes second : List ℕ) (d : NewDeliveries)
       let x = read bytes in
       let t = step s x in
       let h = shown (r .now) bytes second d e in
-      let world = sound-words-taken (r .now) (h .lent) in
+      let world = sound-words-taken (r .now) (h .lent) 0 in
       let n = ap (λ (z : NewDeliveries). z .causal-number) (h .numbers) in
       ap₂ (λ (b c : Bool). gots (pick (b && c) (taken on-words r x) r .seen)) (eq-eqb (needs-world (r .now) 0) 0 world)
       (h .taken)

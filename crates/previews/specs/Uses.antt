@@ -9,12 +9,10 @@ use native.Mathlib.Nat.{not-suc-le-zero}
 use native.Mathlib.Decide.{ℕ-discrete}
 use native.Mathlib.Omega.{arith}
 use lib.ListN.{length, getD, length-append, List·getD-append}
-use borrow.Author.Tests.{ne-eqb}
-use Rattle.definitions.specs.General.{gives, refuses}
-use Rattle.definitions.specs.World.{view}
-use Rattle.definitions.specs.Steps.{multicasts, arrives, loses, trusts, crashes, read, step}
+use Rattle.definitions.specs.General.{gives, refuses, sum}
+use Rattle.definitions.specs.Steps.{multicasts, arrives, loses, trusts, crashes, read}
 use Rattle.definitions.specs.History.{Event, sent, got, Run, given, act}
-use Rattle.definitions.specs.Words.{step-refusal, stepped-words, log-words, preview-refusal, previewed-words, NewDeliveries, new-deliveries, preview-reply, on-words}
+use Rattle.definitions.specs.Words.{step-refusal, stepped-words, log-words, preview-refusal, previewed-words, NewDeliveries, preview-reply, on-words}
 use Rattle.definitions.specs.Previews.{step-process, has-cascade, gots, Appends, AsStep}
 use Rattle.previews.specs.Theorem.{previews}
 
@@ -56,8 +54,7 @@ module _ (w bytes second : List ℕ) where
 -- ---- the numbers
 -- the lengths of the logs of the processes below n, all together
 abbrev total : ℕ → List ℕ → Bool → ℕ
-total zero w log = 0
-total (suc r) w log = total r w log + length (log-words w r log)
+total n w log = sum n (λ r. length (log-words w r log))
 
 -- an empty list
 empty : (xs : List ℕ) → length xs ≡ 0 → xs ≡ []
@@ -102,12 +99,14 @@ module _ (w bytes second : List ℕ) (d : NewDeliveries) (e : preview-reply w by
 
   -- so all logs together are longer by the numbers
   below : (log : Bool) (n : ℕ) → n ≤ at → total n shown log ≡ total n w log
+  unfolding sum
   below log zero l = refl
   below log (suc r) l =
       omega (arith, below log r (omega arith), ap length (elsewhere r log (λ z. omega (arith, z))))
 
   together : (log : Bool) (k n : ℕ) → length (log-words shown at log) ≡ length (log-words w at log) + k → at < n
       → total n shown log ≡ total n w log + k
+  unfolding sum
   together log k zero h l = absurd (not-suc-le-zero l)
   together log k (suc r) h l = elim (ℕ-discrete r at) [
     | yes z ↦

@@ -1,6 +1,6 @@
 -- What the tests of a lent world decide: refusals 1 and 2, or a sound world, of which each call gives what its own
 -- sentence says. Assumes nothing.
-use mathlib.Core.Path.{_≡_, refl, sym, ap, _∙_}
+use mathlib.Core.Path.{_≡_, refl, sym, _∙_}
 use mathlib.Core.Bool.{Bool, true, false}
 use mathlib.Core.List.{List, []}
 use Prim.Native.Nat.{ℕ, suc, _+_, _≤_, _<_}
@@ -8,15 +8,14 @@ use native.Mathlib.Omega.{arith}
 use lib.Dec.{eqb, ltb}
 use lib.ListN.{length, take, drop, getD}
 use borrow.Author.Tests.{eq-eqb, ne-eqb, lt-ltb, le-ltb, eqb-true, ltb-true}
-use Rattle.definitions.specs.General.{pick, needs, gives, refuses, reply}
+use Rattle.definitions.specs.General.{needs, gives, refuses, reply}
 use Rattle.definitions.specs.World.{size, addr, encode, view}
 use Rattle.definitions.specs.Sound.{sound}
-use Rattle.definitions.specs.Steps.{read, refusal, accepted, step, after}
-use Rattle.definitions.specs.Words.{needs-world, step-words, step-refusal, stepped-words, settle-words, settled-words, settle-reply, log-length, log-start, log-refusal, log-words, length-reply}
+use Rattle.definitions.specs.Steps.{read, refusal, after}
+use Rattle.definitions.specs.Words.{needs-world, step-refusal, stepped-words, settle-words, settled-words, settle-reply, log-length, log-start, log-refusal, log-words, length-reply}
 use Rattle.base.specs.Refusals.{needs-none, reply-gives, reply-refuses}
-use Rattle.world.specs.Layout.{encode-view}
 use Rattle.world.specs.SoundLaws.{sound-facts, size-high, count-high, fifo-length-high, causal-length-high}
-use Rattle.keeps.specs.Keeps.{SoundWords}
+use Rattle.keeps.specs.Keeps.{SoundWords, sound-words-taken, taken-sound-words, sound-refusal, sound-stepped}
 
 -- ---- the world
 pub wrong-length : (w : List ℕ) (n : ℕ) → (length w ≡ 20480 → ⊥) → needs-world w n ≡ 1
@@ -25,11 +24,11 @@ wrong-length w n h = rw (ne-eqb (length w) 20480 h)
 pub unsound : (w : List ℕ) (n : ℕ) → length w ≡ 20480 → sound (view w) ≡ false → needs-world w n ≡ 2
 unsound w n l h = rw (eq-eqb (length w) 20480 l, h)
 
-pub right-world : (w : List ℕ) (n : ℕ) → length w ≡ 20480 → sound (view w) ≡ true → needs-world w n ≡ n
-right-world w n l h = rw (eq-eqb (length w) 20480 l, h)
-
 pub world-sound : (w : List ℕ) → length w ≡ 20480 → sound (view w) ≡ true → SoundWords w
 world-sound w l h = record { long = l; reads = sound-facts (view w) h }
+
+pub right-world : (w : List ℕ) (n : ℕ) → length w ≡ 20480 → sound (view w) ≡ true → needs-world w n ≡ n
+right-world w n l h = sound-words-taken w (world-sound w l h) n
 
 -- a world that is refused is refused whatever comes after
 both-refused : (a b : Bool) (m n : ℕ) → (needs 1 a (needs 2 b 0) ≡ 0 → ⊥)
@@ -41,13 +40,8 @@ both-refused false b m n h = refl
 pub still-refused : (w : List ℕ) (m n : ℕ) → (needs-world w 0 ≡ 0 → ⊥) → needs-world w m ≡ needs-world w n
 still-refused w m n h = both-refused (eqb (length w) 20480) (sound (view w)) m n h
 
-both-taken : (a b : Bool) (n : ℕ) → needs 1 a (needs 2 b 0) ≡ 0 → needs 1 a (needs 2 b n) ≡ n
-both-taken true true n h = refl
-both-taken true false n h = absurd (omega arith)
-both-taken false b n h = absurd (omega arith)
-
 pub still-taken : (w : List ℕ) (n : ℕ) → needs-world w 0 ≡ 0 → needs-world w n ≡ n
-still-taken w n h = both-taken (eqb (length w) 20480) (sound (view w)) n h
+still-taken w n h = sound-words-taken w (taken-sound-words w h) n
 
 -- ---- a step
 pub step-refused : (w bytes : List ℕ) (r : ℕ) → (r ≡ 0 → ⊥) → r ≡ needs-world w 0
@@ -58,21 +52,10 @@ step-refused w bytes r n e =
     e ∙ still-refused w 0 (refusal (view w) (read bytes)) (λ q. n (e ∙ q)) in
     (z, rw (← z, ne-eqb r 0 n))
 
-pub step-taken : (w bytes u : List ℕ) (r : ℕ) → needs-world w 0 ≡ 0 → length w ≡ 20480
+pub step-taken : (w bytes u : List ℕ) (r : ℕ) → SoundWords w
     → r ≡ refusal (view w) (read bytes) → u ≡ encode (after (view w) (read bytes))
     → (r ≡ step-refusal w bytes) × (u ≡ stepped-words w bytes)
-unfolding step-refusal stepped-words after
-step-taken w bytes u r h l e f =
-    let z = still-taken w (refusal (view w) (read bytes)) h in (
-      e ∙ sym z,
-      f ∙ choice (accepted (view w) (read bytes))
-          ∙ ap (λ (n : ℕ). pick (eqb n 0) (step-words w (read bytes)) w) (sym z),
-    )
-  where
-    choice : (b : Bool)
-        → encode (pick b (step (view w) (read bytes)) (view w)) ≡ pick b (step-words w (read bytes)) w
-    choice true = refl
-    choice false = encode-view w l
+step-taken w bytes u r h e f = (e ∙ sym (sound-refusal w bytes h), f ∙ sound-stepped w bytes h)
 
 -- ---- settle
 pub settle-refused : (w : List ℕ) (b r : ℕ) → (r ≡ 0 → ⊥) → r ≡ needs-world w 0

@@ -48,7 +48,7 @@ returns-2 c =
     let k = c .before .before in
     let e = k .before .before in
     let a = e .before .before .before .before .before .before .args in
-    step-taken (a .w .now) (a .bytes .now) _ _ (taken e) (held e .long) (k .step .ensures .0) (k .step .ensures .1)
+    step-taken (a .w .now) (a .bytes .now) _ _ (held e) (k .step .ensures .0) (k .step .ensures .1)
 
 pub step-spec : {M : Type 1} → statement M
 step-spec =

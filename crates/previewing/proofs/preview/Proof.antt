@@ -17,7 +17,7 @@ use Rattle.previewing.proofs.preview.Tie as tie
 
 -- what is lent
 lent : (b : tie.Start) → Lent (b .args .w .now) (b .args .second .now)
-lent b = record { long = b .pre .0; second-long = b .pre .1; reads = b .pre .2 }
+lent b = record { world = record { long = b .pre .0; reads = b .pre .2 }; second-long = b .pre .1 }
 
 judge-requires : tie.Need-judge-requires
 judge-requires c κs = search needs
