@@ -1,7 +1,7 @@
 -- Bounded search: the least number that passes a test, the first from a place on, and "all below n pass",
--- with the laws that a loop which searches needs. Assumes nothing.
-use mathlib.Core.Path.{_≡_, refl, ap, ap₂, _∙_}
-use mathlib.Core.Bool.{Bool, true, false, not}
+-- with the laws that a loop which searches or gathers needs. Assumes nothing.
+use mathlib.Core.Path.{_≡_, refl, sym, ap, ap₂, _∙_}
+use mathlib.Core.Bool.{Bool, true, false, not, _&&_}
 use mathlib.Core.Logic.{_⊎_, inl, inr}
 use Prim.Native.Nat.{ℕ, zero, suc, _+_, _-_, _≤_, _<_}
 use native.Mathlib.Omega.{arith}
@@ -10,7 +10,7 @@ use native.Mathlib.Nat.{not-suc-le-zero}
 use native.Mathlib.Decide.{ℕ-discrete}
 use borrow.Author.Tests.{not-true, not-false}
 use Rattle.definitions.specs.General.{first-from, every, some}
-use Rattle.base.specs.Tests.{bool-cases, clash}
+use Rattle.base.specs.Tests.{bool-cases, clash, both, and-swap}
 
 -- ---- the least below n that passes, or a proof that none does
 pub data Found (f : ℕ → Bool) (n : ℕ) : Type 0 where
@@ -146,6 +146,25 @@ every-cong (suc n) f g h =
     ap₂ (λ (a b : Bool). elim a [ true ↦ b | false ↦ false ])
     (h n (omega arith))
     (every-cong n f g (λ i l. h i (omega arith)))
+
+-- ---- a loop that gathers: none yet, one test more, the end
+pub every-none : (f : ℕ → Bool) → true ≡ every 0 f
+unfolding every
+every-none f = refl
+
+pub every-next : (f : ℕ → Bool) (i : ℕ) → every (i + 1) f ≡ (f i && every i f)
+unfolding every
+every-next f i = ap (λ (n : ℕ). every n f) (add-one i) ∙ go (f i)
+  where
+    go : (b : Bool) → elim b [ true ↦ every i f | false ↦ false ] ≡ (b && every i f)
+    go true = refl
+    go false = refl
+
+pub gathers : (f : ℕ → Bool) (i : ℕ) (ok t : Bool) → ok ≡ every i f → t ≡ f i → (ok && t) ≡ every (i + 1) f
+gathers f i ok t e h = ap₂ both e h ∙ and-swap (every i f) (f i) ∙ sym (every-next f i)
+
+pub gathered : (f : ℕ → Bool) (i n : ℕ) {ok : Bool} → ok ≡ every i f → i ≡ n → ok ≡ every n f
+gathered f i n e l = e ∙ ap (λ (k : ℕ). every k f) l
 
 -- ---- one of 0, .., n - 1 passes
 pub some-i : (n : ℕ) (f : ℕ → Bool) (i : ℕ) → i < n → f i ≡ true → some n f ≡ true

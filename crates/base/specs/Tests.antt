@@ -44,6 +44,12 @@ pub both-i : (a b : Bool) → a ≡ true → b ≡ true → both a b ≡ true
 both-i true b p q = q
 both-i false b p q = p
 
+pub and-swap : (a b : Bool) → (a && b) ≡ (b && a)
+and-swap true true = refl
+and-swap true false = refl
+and-swap false true = refl
+and-swap false false = refl
+
 pub either-e : (a b : Bool) → either a b ≡ true → (a ≡ true) ⊎ (b ≡ true)
 either-e true b e = inl refl
 either-e false b e = inr e

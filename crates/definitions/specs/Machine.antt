@@ -59,9 +59,14 @@ marked s p m q = not (bit (s (trust p)) q && addressed s m q) || bit (s (marks p
 unfoldable pub ready : State → ℕ → ℕ → Bool
 ready s p m = eqb (s (held p m)) 1 && outside-fifo s p m && in-turn s p m && every (s size) (marked s p m)
 
--- "for all q other than the sender, the message's C[group of p][q] is at most del[q]": for one q.
+-- "for all q other than the sender, the message's C[group of p][q] is at most del[q]": for one q, of "any 16
+-- words and any del" (document 02, card 3).
+abbrev pub at-most-del : ℕ → (ℕ → ℕ) → (ℕ → ℕ) → ℕ → Bool
+at-most-del own counters del q = eqb q own || leb (counters q) (del q)
+
+-- The same of message m and process p, where they stand in the world.
 abbrev pub fits : State → ℕ → ℕ → ℕ → Bool
-fits s p m q = eqb q (s (sender m)) || leb (s (stamp m (s (group p)) q)) (s (delivered p q))
+fits s p m = at-most-del (s (sender m)) (λ q. s (stamp m (s (group p)) q)) (λ q. s (delivered p q))
 
 -- "Deliverable": for all q.
 unfoldable pub deliverable : State → ℕ → ℕ → Bool

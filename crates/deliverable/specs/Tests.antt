@@ -2,13 +2,14 @@
 use mathlib.Core.Path.{_≡_, refl, sym, ap, ap₂, _∙_}
 use mathlib.Core.Bool.{Bool, true, false, not}
 use mathlib.Core.List.{List}
-use Prim.Native.Nat.{ℕ, _<_}
+use Prim.Native.Nat.{ℕ, _+_, _-_, _*_, _≤_, _<_}
 use native.Mathlib.Omega.{arith}
 use lib.Dec.{leb, eqb}
-use borrow.Author.Tests.{eq-eqb, ne-eqb}
+use lib.ListN.{getD, take, drop}
+use lib.Seq.{getD-take, getD-drop}
 use Rattle.definitions.specs.General.{bit, absent, every}
 use Rattle.definitions.specs.World.{outside-causal, size, group, delivered, causal-length, fifo, causal, sender, stamp, State, encode, view}
-use Rattle.definitions.specs.Machine.{fits, deliverable, deliverable-at}
+use Rattle.definitions.specs.Machine.{at-most-del, fits, deliverable, deliverable-at}
 use Rattle.base.specs.Search.{every-cong}
 use Rattle.base.specs.Tests.{both, either}
 use Rattle.world.specs.Layout.{get-encode, Reads}
@@ -50,12 +51,26 @@ deliverable-law w p i h hp hi q s e =
     q ∙ ap (λ (x : List ℕ). deliverable-at (view x) p i) e
     ∙ deliverable-words s (bounds-state w s e h) p hp i hi
 
-pub fits-sender : (s : State) (p m q : ℕ) → s (sender m) ≡ q → fits s p m q ≡ true
-fits-sender s p m q e = rw (eq-eqb q (s (sender m)) (sym e))
+-- ---- the counters of a message for a group, and del of a process, as parts of the words
+-- The 16 words from b on, as the code lends them.
+abbrev row : List ℕ → ℕ → ℕ → ℕ
+row w b q = getD (take (b + 16 - b) (drop b w)) q 0
 
-pub fits-other : (s : State) (p g m q : ℕ) → (s (sender m) ≡ q → ⊥) → g ≡ s (group p)
-    → fits s p m q ≡ leb (s (stamp m g q)) (s (delivered p q))
-fits-other s p g m q n e = rw (ne-eqb q (s (sender m)) (λ z. n (sym z)), e)
+pub fits-rows : (w : List ℕ) (p g m : ℕ) → g ≡ view w (group p) → view w size ≤ 16
+    → every (view w size) (at-most-del (view w (sender m)) (row w (6867 + m * 187 + 2 + g * 16))
+    (row w (3 + p * 429 + 154))) ≡ every (view w size) (fits (view w) p m)
+fits-rows w p g m e few =
+    every-cong (view w size) _ (fits (view w) p m)
+    (λ q l. ap₂ (λ (a b : ℕ). either (eqb q (view w (sender m))) (leb a b))
+    (at (6867 + m * 187 + 2 + g * 16) q (omega arith)
+    ∙ ap (λ (x : ℕ). getD w x 0) (place q) ∙ ap (λ (x : ℕ). view w (stamp m x q)) e)
+    (at (3 + p * 429 + 154) q (omega arith)))
+  where
+    at : (b q : ℕ) → q < 16 → row w b q ≡ getD w (b + q) 0
+    at b q l = getD-take (b + 16 - b) (drop b w) q 0 (omega arith) ∙ getD-drop b w q 0
+
+    place : (q : ℕ) → 6867 + m * 187 + 2 + g * 16 + q ≡ 6867 + m * 187 + 2 + (g * 16 + q)
+    place q = omega arith
 
 -- ---- the causal log of p as a set of messages
 abbrev pub Listed : State → ℕ → ℕ → Type 0

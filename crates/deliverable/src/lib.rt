@@ -3,7 +3,7 @@ ghost use mathlib.Core.Path.{_≡_};
 ghost use Prim.Native.Nat.{_+_, _≤_, _<_};
 ghost use lib.ListN.{length, getD};
 ghost use Rattle.definitions.specs.General.{absent, every};
-ghost use Rattle.definitions.specs.World.{view, size, group};
+ghost use Rattle.definitions.specs.World.{view, size};
 ghost use Rattle.definitions.specs.Machine.{fits, deliverable-at};
 ghost use Rattle.world.specs.Layout.{Reads};
 ghost use Rattle.bounds.specs.Bounds.{Bounds};
@@ -24,33 +24,17 @@ pub fn absent_from(w: &[u16], at: usize, n: usize, m: usize) -> bool
     true
 }
 
-// Whether q's counter on message m lets process p of group g deliver it.
-pub fn fits_one(w: &[u16], p: usize, g: usize, m: usize, q: usize) -> bool
-    requires { ⌜ (length (now w) ≡ 20480) × (p < 16) × (g < 8) × (m < 64) × (q < 16) × (g ≡ view (now w) (group p)) ⌝ }
-    ensures { λ r. ⌜ r ≡ fits (view (now (w .entry))) p m q ⌝ }
-{
-    if cells::word(w, cells::MESSAGES + m * cells::MESSAGE) == q {
-        return true;
-    }
-    w[cells::MESSAGES + m * cells::MESSAGE + cells::STAMPS + (g * 16 + q)]
-        <= w[cells::PROCESSES + p * cells::PROCESS + cells::DELIVERED + q]
-}
-
-// Whether message m is deliverable at p: all counters on it, but for its sender's, let it.
+// Whether message m is deliverable at p: all counters on it for the group of p, but for its sender's, let it.
 pub fn fits_all(w: &[u16], p: usize, m: usize) -> bool
     requires { ⌜ (length (now w) ≡ 20480) × (p < 16) × (m < 64) × Bounds (view (now w)) ⌝ }
     ensures { λ r. ⌜ r ≡ every (view (now (w .entry)) size) (fits (view (now (w .entry))) p m) ⌝ }
 {
-    let n = cells::word(w, cells::SIZE);
-    let g = cells::word(w, cells::PROCESSES + p * cells::PROCESS);
-    let mut q: usize = 0;
-    while q < n {
-        if !fits_one(w, p, g, m, q) {
-            return false;
-        }
-        q += 1;
-    }
-    true
+    let process = cells::PROCESSES + p * cells::PROCESS;
+    let message = cells::MESSAGES + m * cells::MESSAGE;
+    let g = cells::word(w, process);
+    let c = message + cells::STAMPS + g * 16;
+    let d = process + cells::DELIVERED;
+    counters::at_most(&w[c..c + 16], &w[d..d + 16], w[message], w[cells::SIZE])
 }
 
 // Whether item i of p's FIFO log is outside the causal log, whose members are given, and deliverable.

@@ -11,9 +11,9 @@ use Rattle.definitions.specs.General.{every, some, bit, with}
 use Rattle.definitions.specs.World.{State, size, group, is-process, has-group}
 use Rattle.definitions.specs.Sound.{word, fit, fine}
 use Rattle.base.specs.Tests.{both, both-l, both-r, both-i, same}
-use Rattle.base.specs.Search.{every-true, every-intro, some-i, some-e, some-cong}
+use Rattle.base.specs.Search.{every-true, every-intro, some-i, some-e, some-cong, every-none, every-next}
 use Rattle.base.specs.Bits.{bit-zero, bit-with}
-use Rattle.ranges.specs.Laws.{every-none, every-next, some-none, some-next, or-zero}
+use Rattle.ranges.specs.Laws.{some-none, some-next, or-zero}
 use Rattle.ranges.specs.Sets.{bit-up, subset-e, subset-i}
 
 -- What the loop has gathered of the first n processes.

@@ -1,9 +1,7 @@
--- Laws of tests over a run: one test more, two runs side by side, and tests that pass together. Assumes
--- nothing.
-use mathlib.Core.Path.{_≡_, refl, sym, ap, ap₂, _∙_}
+-- Laws of tests over a run: two runs side by side, and one test more of some that pass. Assumes nothing.
+use mathlib.Core.Path.{_≡_, refl, sym, ap, _∙_}
 use mathlib.Core.Bool.{Bool, true, false, not, _&&_, _||_}
 use Prim.Native.Nat.{ℕ, _+_, _-_, _<_}
-use native.Mathlib.Numerals.{add-one}
 use native.Mathlib.Omega.{arith}
 use native.Mathlib.Decide.{ℕ-discrete}
 use lib.Bits.{bitOr, bitAnd, or-add-and, and-le-l, and-le-r}
@@ -11,36 +9,11 @@ use lib.Dec.{ltb, eqb}
 use borrow.Author.Tests.{ltb-true, ltb-false, eq-eqb, ne-eqb}
 use Rattle.definitions.specs.General.{every, some}
 use Rattle.base.specs.Tests.{both, both-l, both-r, both-i, same}
-use Rattle.base.specs.Search.{every-true, every-intro}
-
-pub and-swap : (a b : Bool) → (a && b) ≡ (b && a)
-and-swap true true = refl
-and-swap true false = refl
-and-swap false true = refl
-and-swap false false = refl
+use Rattle.base.specs.Search.{every-next, every-true, every-intro}
 
 pub and-false : (a : Bool) → (a && false) ≡ false
 and-false true = refl
 and-false false = refl
-
--- ---- a loop that gathers: none yet, one test more, the end
-pub every-none : (f : ℕ → Bool) → true ≡ every 0 f
-unfolding every
-every-none f = refl
-
-pub every-next : (f : ℕ → Bool) (i : ℕ) → every (i + 1) f ≡ (f i && every i f)
-unfolding every
-every-next f i = ap (λ (n : ℕ). every n f) (add-one i) ∙ go (f i)
-  where
-    go : (b : Bool) → elim b [ true ↦ every i f | false ↦ false ] ≡ (b && every i f)
-    go true = refl
-    go false = refl
-
-pub gathers : (f : ℕ → Bool) (i : ℕ) (ok t : Bool) → ok ≡ every i f → t ≡ f i → (ok && t) ≡ every (i + 1) f
-gathers f i ok t e h = ap₂ both e h ∙ and-swap (every i f) (f i) ∙ sym (every-next f i)
-
-pub gathered : (f : ℕ → Bool) (i n : ℕ) {ok : Bool} → ok ≡ every i f → i ≡ n → ok ≡ every n f
-gathered f i n e l = e ∙ ap (λ (k : ℕ). every k f) l
 
 -- ---- all below n + k, in two parts
 pub every-split : (n k : ℕ) (f : ℕ → Bool) → every (n + k) f ≡ (every n f && every k (λ i. f (n + i)))

@@ -12,11 +12,10 @@ use borrow.Author.Tests.{leb-true, le-leb, eq-eqb, eqb-true}
 use Rattle.definitions.specs.General.{pick, every}
 use Rattle.definitions.specs.World.{State, size, count, rule, group, sender, mask, cell-at, view}
 use Rattle.definitions.specs.Sound.{fit, fine, sound}
-use Rattle.base.specs.Tests.{both, both-l, both-r, both-i, clash}
+use Rattle.base.specs.Tests.{both, both-l, both-r, both-i, and-swap, clash}
 use Rattle.base.specs.Search.{every-true, every-intro, every-cong}
 use Rattle.world.specs.SoundLaws.{sound-facts}
 use Rattle.ranges.specs.Ranges.{zeros-at}
-use Rattle.ranges.specs.Laws.{and-swap}
 use Rattle.heads.specs.Known.{Sized, Grouped, Placed, Headed}
 use Rattle.heads.specs.Groups.{GroupTest}
 use Rattle.heads.specs.Messages.{heads-fine}

@@ -4,8 +4,8 @@ use crate::sides::{reference_copy, Side};
 use reference::random::Random;
 use reference::record::{self, Record};
 use reference::sample::{self, RACE};
-use reference::world::World;
-use reference::{calls, journal, sound};
+use reference::world::{Kind, Letter, World};
+use reference::{calls, journal, sound, words};
 
 const WORDS: usize = 20_480;
 const LONGEST: usize = 8_064;
@@ -29,6 +29,8 @@ pub fn run(case: &str, side: &Side, processes: usize, messages: usize) -> Option
         "copy" => copy(&full(&setup, messages)),
         "preview" => preview(side, &setup, messages),
         "arrival" => arrival(side, &setup, messages),
+        "deliverable" => deliverable(side, &full(&setup, messages)),
+        "release" => release(side, &setup, messages),
         "step" => public_steps(side, &setup),
         "settle" => (side.settle)(&mut flying(&setup, messages)) as usize,
         "count" => (side.count)(&run_journal(&setup)),
@@ -111,6 +113,55 @@ fn arrival(side: &Side, setup: &[u8], messages: usize) -> usize {
     1
 }
 
+/// The test of one message at one process, which passes: all entries are looked at.
+fn deliverable(side: &Side, words: &[u16]) -> usize {
+    assert!((side.deliverable)(words));
+    1
+}
+
+/// The step that releases the most: process 0 has all messages but the first in its FIFO log, each waits for that one,
+/// directly or through others, and then it comes.
+fn release(side: &Side, setup: &[u8], messages: usize) -> usize {
+    let (mut words, step) = held_back(setup, messages);
+    (side.step)(&mut words, &step);
+    let world = sound::read(&words).expect("a sound world");
+    assert_eq!(world.processes[0].causal_log.len(), messages);
+    1
+}
+
+/// The world before that step, and the step. Nobody trusts process 0, so that each message is delivered at all others
+/// before the next is multicast; process 0 trusts process 1 alone, whose OK brings it a message and lets it deliver that
+/// in FIFO order. The first message is of the middle process, the others of the processes but that one and 0, in turn.
+fn held_back(setup: &[u8], messages: usize) -> (Vec<u16>, Record) {
+    let mut world = World::fresh(setup).expect("a good setup");
+    let processes = world.processes.len();
+    let others = ((1_u32 << processes) - 2) as u16;
+    for p in 0..processes {
+        take(&mut world, &record::trust(p, if p == 0 { 2 } else { others }));
+    }
+    let groups = ((1_u32 << ((processes + 1) / 2)) - 1) as u8;
+    let middle = processes / 2;
+    let senders: Vec<usize> = (1..processes).filter(|&p| p != middle).collect();
+    for m in 0..messages {
+        let sender = if m == 0 { middle } else { senders[m % senders.len()] };
+        take(&mut world, &record::multicast(sender, groups));
+        while let Some(letter) = world.flight.iter().copied().find(|letter| letter.to != 0) {
+            take(&mut world, &record::arrival(letter));
+        }
+    }
+    let ok = |message| record::arrival(Letter { message, kind: Kind::Ok, from: 1, to: 0 });
+    for m in 1..messages {
+        take(&mut world, &ok(m));
+    }
+    let process = &world.processes[0];
+    assert_eq!((process.fifo_log.len(), process.causal_log.len()), (messages - 1, 0));
+    (words::encode(&world), ok(0))
+}
+
+fn take(world: &mut World, step: &[u8]) {
+    world.step(step).expect("a step that is taken");
+}
+
 /// A long random run: a setup and steps, most of which the world takes.
 fn random_run(setup: &[u8]) -> Vec<Record> {
     let mut random = Random::new(1, 1);
@@ -141,7 +192,7 @@ fn public_steps(side: &Side, setup: &[u8]) -> usize {
     let mut taken = 0;
     for (at, step) in random_run(setup).iter().enumerate() {
         if at % (LONGEST / PUBLIC) == 0 {
-            (side.step)(&mut reference::words::encode(&world), step);
+            (side.step)(&mut words::encode(&world), step);
             taken += 1;
         }
         let _ = world.step(step);

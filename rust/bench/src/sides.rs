@@ -5,6 +5,7 @@ use reference::{calls, journal, sound};
 
 extern "C" {
     fn wt_bench_sound(words: *const u16, length: usize) -> u32;
+    fn wt_bench_deliverable(words: *const u16, length: usize, process: usize, message: usize) -> u32;
 }
 
 /// The last message of a full world.
@@ -13,6 +14,8 @@ const LAST: usize = 63;
 /// The calls that the cases are about. Each is given what it takes, and must not be refused.
 pub struct Side {
     pub sound: fn(&[u16]),
+    /// Whether the last message is deliverable at process 0.
+    pub deliverable: fn(&[u16]) -> bool,
     pub make: fn(&mut [u16], &[u8]),
     pub log: fn(&[u16]) -> usize,
     /// The order number of the last message.
@@ -27,6 +30,7 @@ pub struct Side {
 
 pub const ARCHIVE: Side = Side {
     sound: archive_sound,
+    deliverable: archive_deliverable,
     make: |words, setup| engine::world::make(words, setup).expect("a good setup"),
     log: |words| engine::world::log(words, 0, true).expect("a sound world").len(),
     order: |words| engine::world::order(words, LAST as u32).expect("a full world"),
@@ -44,6 +48,7 @@ pub const ARCHIVE: Side = Side {
 
 pub const REFERENCE: Side = Side {
     sound: reference_sound,
+    deliverable: reference_deliverable,
     make: reference_make,
     log: reference_log,
     order: reference_order,
@@ -60,10 +65,21 @@ fn archive_sound(words: &[u16]) {
     assert_eq!(answer, 0, "the world is sound");
 }
 
+/// The same.
+fn archive_deliverable(words: &[u16]) -> bool {
+    unsafe { wt_bench_deliverable(words.as_ptr(), words.len(), 0, LAST) == 1 }
+}
+
 #[no_mangle]
 #[inline(never)]
 pub fn reference_sound(words: &[u16]) {
     sound::read(words).expect("a sound world");
+}
+
+#[no_mangle]
+#[inline(never)]
+pub fn reference_deliverable(words: &[u16]) -> bool {
+    sound::read(words).expect("a sound world").is_deliverable(0, LAST)
 }
 
 #[no_mangle]

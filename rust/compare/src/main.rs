@@ -20,6 +20,7 @@ use std::process::ExitCode;
 use std::thread;
 use std::time::Instant;
 use tally::Tally;
+use world::waiting;
 
 /// A capability to compare.
 struct Area {
@@ -34,7 +35,7 @@ struct Area {
     weight: u64,
 }
 
-const AREAS: [Area; 7] = [
+const AREAS: [Area; 8] = [
     Area { name: "journal", input: journal::input, answers: journal::ANSWERS, cover: &[], weight: 1 },
     Area { name: "world", input: world::input, answers: world::ANSWERS, cover: world::COVER, weight: 50 },
     Area {
@@ -50,6 +51,13 @@ const AREAS: [Area; 7] = [
         answers: world::PREVIEW_ANSWERS,
         cover: world::PREVIEW_COVER,
         weight: world::STEPS,
+    },
+    Area {
+        name: "waiting",
+        input: waiting::input,
+        answers: waiting::ANSWERS,
+        cover: waiting::COVER,
+        weight: 100,
     },
     Area { name: "settle", input: world::settles, answers: world::SETTLE_ANSWERS, cover: &[], weight: 100 },
     Area { name: "replay", input: world::replays, answers: world::REPLAY_ANSWERS, cover: &[], weight: 20 },

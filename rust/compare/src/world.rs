@@ -2,6 +2,7 @@
 
 mod calls;
 mod inputs;
+pub mod waiting;
 
 use crate::difference::Difference;
 use crate::lent::Lent;

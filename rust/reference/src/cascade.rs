@@ -50,7 +50,7 @@ impl World {
     }
 
     /// For all q other than the sender, the message's C[group of p][q] is at most del[q].
-    fn is_deliverable(&self, p: usize, message: usize) -> bool {
+    pub fn is_deliverable(&self, p: usize, message: usize) -> bool {
         let process = &self.processes[p];
         let message = &self.messages[message];
         let counters = &message.counters[process.group];

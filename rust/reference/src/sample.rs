@@ -36,6 +36,11 @@ pub const WRONG: Weights =
 /// A valid setup of at most so many processes.
 pub fn setup(random: &mut Random, most: usize) -> Record {
     let n = random.between(1, most.min(PROCESSES));
+    setup_of(random, n)
+}
+
+/// A valid setup of n processes.
+pub fn setup_of(random: &mut Random, n: usize) -> Record {
     let groups = random.between(1, n.min(GROUPS));
     let mut of: Vec<usize> = (0..n).map(|i| if i < groups { i } else { random.below(groups) }).collect();
     for i in 1..n {
@@ -168,8 +173,14 @@ fn damaged_step(random: &mut Random, world: &World) -> Vec<u8> {
 /// A sound world of at most so many processes, with anything in it that soundness allows: mostly one that no run
 /// reaches.
 pub fn sound_world(random: &mut Random, most: usize) -> World {
-    let mut world = World::fresh(&setup(random, most)).expect("a valid setup");
+    let setup = setup(random, most);
     let count = if random.one_in(8) { random.between(0, MESSAGES) } else { random.between(0, 12) };
+    sound_world_of(random, &setup, count)
+}
+
+/// Such a world of this setup, with so many messages.
+pub fn sound_world_of(random: &mut Random, setup: &[u8], count: usize) -> World {
+    let mut world = World::fresh(setup).expect("a valid setup");
     let groups = world.groups();
     for _ in 0..count {
         let mask = random.between(1, (1 << groups) - 1);

@@ -4,7 +4,7 @@ use mathlib.Core.Path.{_≡_}
 use Prim.Native.Nat.{_-_, _≤_}
 use native.Mathlib.Omega.{arith}
 use Rattle.definitions.specs.World.{view}
-use Rattle.ranges.specs.Laws.{every-none, gathers}
+use Rattle.base.specs.Search.{every-none, gathers}
 use Rattle.blocks.specs.Process.{processes-fine}
 use borrow.Author.Needs.{needs}
 use Rattle.blocks.proofs.processes.Statement.{statement}

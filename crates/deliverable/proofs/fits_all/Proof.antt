@@ -1,93 +1,119 @@
--- `deliverable::fits_all` meets its contract. The loop's invariant: the entries of the processes below q
--- fit. Assumes nothing.
-use borrow.Author.Needs.{needs}
-use Prim.Native.Nat.{_-_, _≤_, _<_}
-use mathlib.Core.Path.{_≡_, refl, sym, _∙_}
-use mathlib.Core.Bool.{true}
+-- `deliverable::fits_all` meets its contract. Assumes nothing.
+use mathlib.Core.Path.{_∙_}
+use Prim.Native.Nat.{_<_}
 use native.Mathlib.Omega.{arith}
-use borrow.Author.Tests.{not-true, not-false}
-use Rattle.definitions.specs.General.{every}
-use Rattle.definitions.specs.World.{view, size}
-use Rattle.definitions.specs.Machine.{fits}
-use Rattle.base.specs.Search.{every-more, every-fails}
+use Rattle.deliverable.specs.Tests.{fits-rows}
+use borrow.Author.Needs.{needs}
 use Rattle.deliverable.proofs.fits_all.Statement.{statement}
 use Rattle.deliverable.proofs.fits_all.Tie as tie
 
-abbrev Inv-loop : tie.InvT-loop
-Inv-loop w p m n g q₀ q = (q ≤ n) × (every q (fits (view w) p m) ≡ true)
+-- the group exists
+low : (c : tie.After-word) → c .word .result < 8
+low c =
+    let b = c .before .before in
+    omega (arith, c .word .ensures, b .pre .3 .groups (b .args .p) (b .pre .1))
 
-abbrev μ-loop : tie.MeasureT-loop
-μ-loop w p m n g q₀ q = n - q
+mul-process : tie.Need-mul-process
+mul-process c = search needs
 
-word-requires : tie.Need-word-requires Inv-loop μ-loop
+add-process : tie.Need-add-process
+add-process c = search needs
+
+mul-message : tie.Need-mul-message
+mul-message c = search needs
+
+add-message : tie.Need-add-message
+add-message c = search needs
+
+word-requires : tie.Need-word-requires
 word-requires c κs = search needs
 
-mul-word : tie.Need-mul-word Inv-loop μ-loop
-mul-word c = search needs
+add-c : tie.Need-add-c
+add-c c = search needs
 
-add-word : tie.Need-add-word Inv-loop μ-loop
-add-word c = search needs
+mul-c : tie.Need-mul-c
+mul-c c = omega (arith, low c, c .before .before .pre .2)
 
-word-requires-2 : tie.Need-word-requires-2 Inv-loop μ-loop
-word-requires-2 c κs = search needs
+add-c-2 : tie.Need-add-c-2
+add-c-2 c = omega (arith, low c, c .before .before .pre .2)
 
-loop-holds : tie.Need-loop-holds Inv-loop μ-loop
-unfolding every
-loop-holds c = (omega arith, refl)
+add-d : tie.Need-add-d
+add-d c = search needs
 
-fits-one-requires : tie.Need-fits-one-requires Inv-loop μ-loop
-fits-one-requires c κs =
-    let b = c .before .before .before .before .before in
-    let w2 = c .before .before in
-    let g : w2 .word2 .result < 8 = omega
-    (arith, w2 .word2 .ensures, b .pre .3 .groups (b .args .p) (b .pre .1)) in
-    let n : w2 .before .word .result ≤ 16 = omega (arith, w2 .before .word .ensures, b .pre .3 .sizes) in
-    (b .pre .0, b .pre .1, g, b .pre .2, omega arith, w2 .word2 .ensures)
+add-at-most : tie.Need-add-at-most
+add-at-most c = omega (arith, low c, c .before .before .pre .2)
 
-returns : tie.Need-returns Inv-loop μ-loop
+mul-at-most : tie.Need-mul-at-most
+mul-at-most c = omega (arith, low c, c .before .before .pre .2)
+
+sub-at-most : tie.Need-sub-at-most
+sub-at-most c = search needs
+
+part-at-most-start : tie.Need-part-at-most-start
+part-at-most-start c = search needs
+
+part-at-most-end : tie.Need-part-at-most-end
+part-at-most-end c = omega (arith, low c, c .before .before .pre)
+
+add-at-most-2 : tie.Need-add-at-most-2
+add-at-most-2 c = search needs
+
+mul-at-most-2 : tie.Need-mul-at-most-2
+mul-at-most-2 c = search needs
+
+sub-at-most-2 : tie.Need-sub-at-most-2
+sub-at-most-2 c = search needs
+
+part-at-most-start-2 : tie.Need-part-at-most-start-2
+part-at-most-start-2 c = search needs
+
+part-at-most-end-2 : tie.Need-part-at-most-end-2
+part-at-most-end-2 c = search needs
+
+mul-at-most-3 : tie.Need-mul-at-most-3
+mul-at-most-3 c = search needs
+
+shared-slice-read-at-most : tie.Need-shared-slice-read-at-most
+shared-slice-read-at-most c = search needs
+
+shared-slice-read-at-most-2 : tie.Need-shared-slice-read-at-most-2
+shared-slice-read-at-most-2 c = search needs
+
+at-most-requires : tie.Need-at-most-requires
+at-most-requires c κs = search needs
+
+returns : tie.Need-returns
 returns c =
-    let a = c .before .before .before .before .before .before .before .args in
-    let l = c .before .before .before .loop in
-    let n = c .before .before .before .before .before .word .ensures in
-    sym (every-fails _ (fits (view (a .w .now)) (a .p) (a .m)) (l .q) (omega arith)
-    (sym (c .before .fits-one .ensures) ∙ not-true (c .before .fits-one .result) (c .if1 .taken)))
-
-add-q : tie.Need-add-q Inv-loop μ-loop
-add-q c = search needs
-
-loop-less : tie.Need-loop-less Inv-loop μ-loop
-loop-less c = search needs
-
-loop-again : tie.Need-loop-again Inv-loop μ-loop
-loop-again c =
-    let a = c .before .before .before .before .before .before .before .args in
-    let l = c .before .before .before .loop in (
-      omega arith,
-      every-more (l .q) (fits (view (a .w .now)) (a .p) (a .m)) (l .inv .1)
-          (sym (c .before .fits-one .ensures) ∙ not-false (c .before .fits-one .result) (c .if1 .left)),
-    )
-
-returns-2 : tie.Need-returns-2 Inv-loop μ-loop
-returns-2 c =
-    let a = c .before .before .before .before .before .args in
-    let l = c .before .loop in
-    let e : l .q ≡ view (a .w .now) size = omega (arith, c .before .before .before .word .ensures) in
-    sym (rw e at (l .inv .1))
+    let o = c .before .before .before .before .before in
+    let b = o .before .before in
+    let a = b .args in
+    c .at-most .ensures ∙ fits-rows (a .w .now) (a .p) (o .word .result) (a .m) (o .word .ensures) (b .pre .3 .sizes)
 
 pub fits-all-spec : {M : Type 1} → statement M
 fits-all-spec =
     tie.close
     (tie.spec
-    Inv-loop
-    μ-loop
+    mul-process
+    add-process
+    mul-message
+    add-message
     word-requires
-    mul-word
-    add-word
-    word-requires-2
-    loop-holds
-    fits-one-requires
-    returns
-    add-q
-    loop-less
-    loop-again
-    returns-2)
+    add-c
+    mul-c
+    add-c-2
+    add-d
+    add-at-most
+    mul-at-most
+    sub-at-most
+    part-at-most-start
+    part-at-most-end
+    add-at-most-2
+    mul-at-most-2
+    sub-at-most-2
+    part-at-most-start-2
+    part-at-most-end-2
+    mul-at-most-3
+    shared-slice-read-at-most
+    shared-slice-read-at-most-2
+    at-most-requires
+    returns)

@@ -4,7 +4,7 @@ use mathlib.Core.Path.{_≡_, refl, _∙_}
 use Prim.Native.Nat.{_+_, _-_, _*_, _≤_}
 use native.Mathlib.Omega.{arith}
 use Rattle.definitions.specs.World.{view}
-use Rattle.ranges.specs.Laws.{every-none, gathers}
+use Rattle.base.specs.Search.{every-none, gathers}
 use Rattle.heads.specs.Messages.{heads-fine, head-law}
 use borrow.Author.Needs.{needs}
 use Rattle.heads.proofs.messages.Statement.{statement}

@@ -3,7 +3,7 @@
 use mathlib.Core.Path.{_≡_, refl}
 use Prim.Native.Nat.{_-_, _≤_}
 use native.Mathlib.Omega.{arith}
-use Rattle.ranges.specs.Laws.{every-none, gathers}
+use Rattle.base.specs.Search.{every-none, gathers}
 use Rattle.logtest.specs.Log.{low-at}
 use borrow.Author.Needs.{needs}
 use Rattle.logtest.proofs.low.Statement.{statement}

@@ -7,7 +7,7 @@ use lib.Dec.{leb}
 use lib.ListN.{getD}
 use Rattle.definitions.specs.General.{every}
 use Rattle.ranges.specs.Ranges.{within-at}
-use Rattle.ranges.specs.Laws.{every-none, gathers, gathered}
+use Rattle.base.specs.Search.{every-none, gathers, gathered}
 use borrow.Author.Needs.{needs}
 use Rattle.ranges.proofs.within.Statement.{statement}
 use Rattle.ranges.proofs.within.Tie as tie

@@ -7,7 +7,7 @@ use lib.Dec.{eqb}
 use lib.ListN.{getD}
 use Rattle.definitions.specs.General.{every}
 use Rattle.ranges.specs.Ranges.{zeros-at}
-use Rattle.ranges.specs.Laws.{every-none, gathers, gathered}
+use Rattle.base.specs.Search.{every-none, gathers, gathered}
 use borrow.Author.Needs.{needs}
 use Rattle.ranges.proofs.zeros.Statement.{statement}
 use Rattle.ranges.proofs.zeros.Tie as tie

@@ -6,7 +6,7 @@ use native.Mathlib.Omega.{arith}
 use lib.Dec.{eqb}
 use lib.ListN.{getD}
 use Rattle.definitions.specs.General.{every}
-use Rattle.ranges.specs.Laws.{every-none, gathers, gathered}
+use Rattle.base.specs.Search.{every-none, gathers, gathered}
 use Rattle.regions.specs.Nexts.{next-of, nexts-at}
 use borrow.Author.Needs.{needs}
 use Rattle.regions.proofs.nexts.Statement.{statement}

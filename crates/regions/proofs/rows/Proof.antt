@@ -5,7 +5,7 @@ use Prim.Native.Nat.{_+_, _-_, _*_, _≤_}
 use native.Mathlib.Omega.{arith}
 use lib.ListN.{getD}
 use Rattle.definitions.specs.General.{every}
-use Rattle.ranges.specs.Laws.{every-none, gathers, gathered}
+use Rattle.base.specs.Search.{every-none, gathers, gathered}
 use Rattle.regions.specs.Rows.{row-ok, rows-law}
 use borrow.Author.Needs.{needs}
 use Rattle.regions.proofs.rows.Statement.{statement}
