@@ -1,5 +1,5 @@
--- Why one pass over 16 entries serves for any number n of processes: entries from n on are let through, and past the
--- end of both rows none falls short. Assumes nothing.
+-- Two rows of words compared, and why one pass over 16 entries serves for any number n of processes: entries from n on
+-- are let through, and past the end of both rows none falls short. Assumes nothing.
 use mathlib.Core.Path.{_≡_, ap₂, _∙_}
 use mathlib.Core.Bool.{Bool, true}
 use mathlib.Core.List.{List}
@@ -13,6 +13,10 @@ use Rattle.definitions.specs.General.{every}
 use Rattle.definitions.specs.Machine.{at-most-del}
 use Rattle.base.specs.Tests.{either, either-e, either-l, either-r, clash, same, le-or-lt}
 use Rattle.base.specs.Search.{every-true, every-intro}
+
+-- Entry q of counters and del that are rows of words.
+abbrev pub rows-at-most : ℕ → List ℕ → List ℕ → ℕ → Bool
+rows-at-most own c d = at-most-del own (λ q. getD c q 0) (λ q. getD d q 0)
 
 -- The test of entry q in the pass.
 abbrev pub let-through : ℕ → (ℕ → Bool) → ℕ → Bool
@@ -38,9 +42,8 @@ every-below n k f past =
 
 -- Two rows of k words: past their end both read 0.
 pub rows-below : (n k own : ℕ) (c d : List ℕ) → length c ≡ k → length d ≡ k
-    → every k (let-through n (at-most-del own (λ q. getD c q 0) (λ q. getD d q 0)))
-    ≡ every n (at-most-del own (λ q. getD c q 0) (λ q. getD d q 0))
+    → every k (let-through n (rows-at-most own c d)) ≡ every n (rows-at-most own c d)
 rows-below n k own c d lc ld =
-    every-below n k (at-most-del own (λ q. getD c q 0) (λ q. getD d q 0))
+    every-below n k (rows-at-most own c d)
     (λ q h. either-r (eqb q own) (leb (getD c q 0) (getD d q 0))
     (ap₂ leb (List·getD-eq-default c 0 (omega arith)) (List·getD-eq-default d 0 (omega arith)) ∙ le-leb 0 0 (omega arith)))

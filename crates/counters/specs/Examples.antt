@@ -4,13 +4,13 @@ use mathlib.Core.Path.{_≡_, refl}
 use mathlib.Core.Bool.{Bool, true, false}
 use mathlib.Core.List.{List}
 use Prim.Native.Nat.{ℕ}
-use lib.ListN.{getD, set, replicate}
+use lib.ListN.{set, replicate}
 use Rattle.definitions.specs.General.{every}
-use Rattle.definitions.specs.Machine.{at-most-del}
+use Rattle.counters.specs.Counters.{rows-at-most}
 
 -- What `at_most` answers.
 abbrev answer : List ℕ → List ℕ → ℕ → ℕ → Bool
-answer c d own n = every n (at-most-del own (λ q. getD c q 0) (λ q. getD d q 0))
+answer c d own n = every n (rows-at-most own c d)
 
 abbrev twos : List ℕ
 twos = replicate 16 2

@@ -9,12 +9,13 @@ use lib.ListN.{getD, take, drop}
 use lib.Seq.{getD-take, getD-drop}
 use Rattle.definitions.specs.General.{bit, absent, every}
 use Rattle.definitions.specs.World.{outside-causal, size, group, delivered, causal-length, fifo, causal, sender, stamp, State, encode, view}
-use Rattle.definitions.specs.Machine.{at-most-del, fits, deliverable, deliverable-at}
+use Rattle.definitions.specs.Machine.{fits, deliverable, deliverable-at}
 use Rattle.base.specs.Search.{every-cong}
 use Rattle.base.specs.Tests.{both, either}
 use Rattle.world.specs.Layout.{get-encode, Reads}
 use Rattle.sets.specs.Members.{Members}
 use Rattle.bounds.specs.Bounds.{Bounds, bounds-state}
+use Rattle.counters.specs.Counters.{rows-at-most}
 
 -- ---- what the tests read of words
 module _ (s : State) (h : Bounds s) (p : ℕ) (hp : p < 16) where
@@ -53,11 +54,11 @@ deliverable-law w p i h hp hi q s e =
 
 -- ---- the counters of a message for a group, and del of a process, as parts of the words
 -- The 16 words from b on, as the code lends them.
-abbrev row : List ℕ → ℕ → ℕ → ℕ
-row w b q = getD (take (b + 16 - b) (drop b w)) q 0
+abbrev row : List ℕ → ℕ → List ℕ
+row w b = take (b + 16 - b) (drop b w)
 
 pub fits-rows : (w : List ℕ) (p g m : ℕ) → g ≡ view w (group p) → view w size ≤ 16
-    → every (view w size) (at-most-del (view w (sender m)) (row w (6867 + m * 187 + 2 + g * 16))
+    → every (view w size) (rows-at-most (view w (sender m)) (row w (6867 + m * 187 + 2 + g * 16))
     (row w (3 + p * 429 + 154))) ≡ every (view w size) (fits (view w) p m)
 fits-rows w p g m e few =
     every-cong (view w size) _ (fits (view w) p m)
@@ -66,7 +67,7 @@ fits-rows w p g m e few =
     ∙ ap (λ (x : ℕ). getD w x 0) (place q) ∙ ap (λ (x : ℕ). view w (stamp m x q)) e)
     (at (3 + p * 429 + 154) q (omega arith)))
   where
-    at : (b q : ℕ) → q < 16 → row w b q ≡ getD w (b + q) 0
+    at : (b q : ℕ) → q < 16 → getD (row w b) q 0 ≡ getD w (b + q) 0
     at b q l = getD-take (b + 16 - b) (drop b w) q 0 (omega arith) ∙ getD-drop b w q 0
 
     place : (q : ℕ) → 6867 + m * 187 + 2 + g * 16 + q ≡ 6867 + m * 187 + 2 + (g * 16 + q)

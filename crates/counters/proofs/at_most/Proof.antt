@@ -3,18 +3,16 @@
 use mathlib.Core.Path.{_≡_, refl, _∙_}
 use Prim.Native.Nat.{_-_, _≤_}
 use native.Mathlib.Omega.{arith}
-use lib.ListN.{getD}
 use Rattle.definitions.specs.General.{every}
-use Rattle.definitions.specs.Machine.{at-most-del}
 use Rattle.base.specs.Search.{every-none, gathers, gathered}
-use Rattle.counters.specs.Counters.{let-through, rows-below}
+use Rattle.counters.specs.Counters.{rows-at-most, let-through, rows-below}
 use borrow.Author.Needs.{needs}
 use Rattle.counters.proofs.at_most.Statement.{statement}
 use Rattle.counters.proofs.at_most.Tie as tie
 
 abbrev Inv-loop : tie.InvT-loop
 Inv-loop counters del sender n ok₀ q₀ ok q = (q ≤ 16)
-    × (ok ≡ every q (let-through n (at-most-del sender (λ j. getD counters j 0) (λ j. getD del j 0))))
+    × (ok ≡ every q (let-through n (rows-at-most sender counters del)))
 
 abbrev μ-loop : tie.MeasureT-loop
 μ-loop counters del sender n ok₀ q₀ ok q = 16 - q
@@ -22,17 +20,14 @@ abbrev μ-loop : tie.MeasureT-loop
 loop-holds : tie.Need-loop-holds Inv-loop μ-loop
 loop-holds c = (omega arith, every-none _)
 
-cast-ok : tie.Need-cast-ok Inv-loop μ-loop
-cast-ok c = search needs
+cast-i : tie.Need-cast-i Inv-loop μ-loop
+cast-i c = search needs
 
 mul-ok : tie.Need-mul-ok Inv-loop μ-loop
 mul-ok c = search needs
 
 shared-slice-read-ok : tie.Need-shared-slice-read-ok Inv-loop μ-loop
 shared-slice-read-ok c = search needs
-
-cast-ok-2 : tie.Need-cast-ok-2 Inv-loop μ-loop
-cast-ok-2 c = search needs
 
 mul-ok-2 : tie.Need-mul-ok-2 Inv-loop μ-loop
 mul-ok-2 c = search needs
@@ -65,10 +60,9 @@ at-most-spec =
     Inv-loop
     μ-loop
     loop-holds
-    cast-ok
+    cast-i
     mul-ok
     shared-slice-read-ok
-    cast-ok-2
     mul-ok-2
     shared-slice-read-ok-2
     add-q
