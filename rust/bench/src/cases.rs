@@ -9,6 +9,8 @@ use reference::{calls, journal, sound, words};
 
 const WORDS: usize = 20_480;
 const LONGEST: usize = 8_064;
+/// A journal of 128 blocks, all of them full.
+const FULL: &[u8] = include_bytes!("../../../bench/full.journal");
 /// Steps of a run taken by the public call, each of which tests the whole world.
 const PUBLIC: usize = 500;
 
@@ -35,10 +37,10 @@ pub fn run(case: &str, side: &Side, processes: usize, messages: usize) -> Option
         "settle" => (side.settle)(&mut flying(&setup, messages)) as usize,
         "count" => (side.count)(&run_journal(&setup)),
         "replay" => (side.replay)(&mut words, &run_journal(&setup)) as usize + 1,
-        "count-full" => (side.count)(include_bytes!("../../../bench/full.journal")),
-        "replay-full" => {
-            (side.replay)(&mut words, include_bytes!("../../../bench/full.journal")) as usize + 1
-        }
+        "count-full" => (side.count)(FULL),
+        "read" => read(side),
+        "write" => write(side),
+        "replay-full" => (side.replay)(&mut words, FULL) as usize + 1,
         _ => return None,
     };
     Some(units)
@@ -184,6 +186,29 @@ fn run_journal(setup: &[u8]) -> Vec<u8> {
     let mut bytes = vec![0; journal::length(records.len()).expect("a good length")];
     journal::write(&records, &mut bytes).expect("a good length");
     bytes
+}
+
+/// The records of the full journal.
+fn full_records() -> Vec<u8> {
+    let mut records = vec![0; 8 * LONGEST];
+    journal::read(FULL, &mut records).expect("a good journal");
+    records
+}
+
+/// The full journal read into bytes that are all set before.
+fn read(side: &Side) -> usize {
+    let mut records = vec![255; 8 * LONGEST];
+    (side.read)(FULL, &mut records);
+    assert_eq!(records, full_records());
+    LONGEST
+}
+
+/// Its records written, the same way.
+fn write(side: &Side) -> usize {
+    let mut bytes = vec![255; FULL.len()];
+    (side.write)(&full_records(), &mut bytes);
+    assert_eq!(bytes, FULL);
+    LONGEST
 }
 
 /// Steps of that run by the public call, spread over all of it.

@@ -25,6 +25,8 @@ pub struct Side {
     pub preview: fn(&[u16], &[u8], &mut [u16]) -> (u32, u32),
     pub settle: fn(&mut [u16]) -> u32,
     pub count: fn(&[u8]) -> usize,
+    pub read: fn(&[u8], &mut [u8]),
+    pub write: fn(&[u8], &mut [u8]),
     pub replay: fn(&mut [u16], &[u8]) -> u32,
 }
 
@@ -43,6 +45,8 @@ pub const ARCHIVE: Side = Side {
     },
     settle: |words| engine::world::settle(words, u32::MAX).expect("a sound world").arrivals,
     count: |bytes| engine::journal::count(bytes).expect("a good journal"),
+    read: |bytes, records| engine::journal::read(bytes, records).expect("a good journal"),
+    write: |records, bytes| engine::journal::write(records, bytes).expect("a good length"),
     replay: |words, bytes| engine::world::replay(words, bytes).expect("a good journal").steps,
 };
 
@@ -56,6 +60,8 @@ pub const REFERENCE: Side = Side {
     preview: reference_preview,
     settle: reference_settle,
     count: reference_count,
+    read: reference_read,
+    write: reference_write,
     replay: reference_replay,
 };
 
@@ -130,6 +136,18 @@ pub fn reference_settle(words: &mut [u16]) -> u32 {
 #[inline(never)]
 pub fn reference_count(bytes: &[u8]) -> usize {
     journal::count(bytes).expect("a good journal")
+}
+
+#[no_mangle]
+#[inline(never)]
+pub fn reference_read(bytes: &[u8], records: &mut [u8]) {
+    journal::read(bytes, records).expect("a good journal");
+}
+
+#[no_mangle]
+#[inline(never)]
+pub fn reference_write(records: &[u8], bytes: &mut [u8]) {
+    journal::write(records, bytes).expect("a good length");
 }
 
 #[no_mangle]
