@@ -12,8 +12,8 @@ use Rattle.definitions.specs.General.{needs, gives, refuses, reply}
 use Rattle.definitions.specs.World.{size, addr, encode, view}
 use Rattle.definitions.specs.Sound.{sound}
 use Rattle.definitions.specs.Steps.{read, refusal, after}
-use Rattle.definitions.specs.Words.{needs-world, step-refusal, stepped-words, settle-words, settled-words, settle-reply, log-length, log-start, log-refusal, log-words, length-reply}
-use Rattle.base.specs.Refusals.{needs-none, reply-gives, reply-refuses}
+use Rattle.definitions.specs.Words.{needs-world, step-refusal, stepped-words, settle-words, settled-words, settle-reply, log-length, log-start, log-refusal, log-words}
+use Rattle.base.specs.Refusals.{needs-none}
 use Rattle.world.specs.SoundLaws.{sound-facts, size-high, count-high, fifo-length-high, causal-length-high}
 use Rattle.keeps.specs.Keeps.{SoundWords, sound-words-taken, taken-sound-words, sound-refusal, sound-stepped}
 
@@ -91,51 +91,28 @@ present w a i n e =
 pub not-refused : {A : Type 0} {n : ℕ} {a b : A} → n ≡ 0 → a ≡ b → gives a ≡ reply n b
 not-refused e d = rw (e, d)
 
--- ---- a log, by its length
-pub log-empty : (w : List ℕ) (p : ℕ) (log : Bool) (n : ℕ) → refuses n ≡ length-reply w p log
-    → [] ≡ log-words w p log
-unfolding length-reply log-words
-log-empty w p log n e =
-    let z = reply-refuses n (log-refusal w p) (log-length (view w) p log) e in rw (ne-eqb (log-refusal w p) 0 (z .1))
+-- ---- a log
+pub log-refused : (w : List ℕ) (p n : ℕ) (log : Bool) → (n ≡ 0 → ⊥) → n ≡ log-refusal w p → [] ≡ log-words w p log
+unfolding log-words
+log-refused w p n log h e = rw (← e, ne-eqb n 0 h)
 
--- what a log that is there tells
-pub record Logged (w : List ℕ) (p : ℕ) (log : Bool) (n : ℕ) : Type 0 where
-  pub sound-there : SoundWords w
-  pub process-there : p < view w size
-  pub items : n ≡ log-length (view w) p log
-  pub words : take n (drop (log-start p log) w) ≡ log-words w p log
+-- of a sound world, and of a process that is there
+pub log-there : (w : List ℕ) (p : ℕ) (log : Bool) → SoundWords w → p < view w size
+    → take (log-length (view w) p log) (drop (log-start p log) w) ≡ log-words w p log
+unfolding log-words log-refusal
+log-there w p log h there = rw (← is-present w (addr size) p 5 (sound-words-taken w h 0) there)
 
-pub logged : (w : List ℕ) (p : ℕ) (log : Bool) (n : ℕ) → gives n ≡ length-reply w p log → Logged w p log n
-unfolding length-reply log-words log-refusal
-logged w p log n e =
-    let r = reply-gives (log-refusal w p) n (log-length (view w) p log) e in
-    let z = present w (addr size) p 4 (r .0) in
-    record {
-      sound-there = z .0;
-      process-there = z .1;
-      items = r .1;
-      words = rw (r .0, r .1);
-    }
+-- the process has its place, and the log lies among the words
+pub process-inside : (w : List ℕ) (p : ℕ) → SoundWords w → p < view w size → p < 16
+process-inside w p h there = omega (arith, size-high (view w) (h .reads))
 
--- it lies among the words
-pub log-inside : (w : List ℕ) (p : ℕ) (log : Bool) (n : ℕ) → Logged w p log n
-    → (p < 16) × (log-start p log + n ≤ 20480)
-log-inside w p true n h =
-    let s = h .sound-there .reads in
-    let a = size-high (view w) s in
-    let b : p < 16 = omega (arith, h .process-there) in (
-      b,
-      omega (
-        arith,
-        h .items,
-        count-high (view w) s,
-        fifo-length-high (view w) s p b,
-        causal-length-high
-            (view w) s p b,
-      ),
-    )
-log-inside w p false n h =
-    let s = h .sound-there .reads in
-    let a = size-high (view w) s in
-    let b : p < 16 = omega (arith, h .process-there) in
-    (b, omega (arith, h .items, count-high (view w) s, fifo-length-high (view w) s p b))
+pub log-inside : (w : List ℕ) (p : ℕ) (log : Bool) → SoundWords w → p < view w size
+    → log-start p log + log-length (view w) p log ≤ 20480
+log-inside w p true h there =
+    let s = h .reads in
+    let b = process-inside w p h there in
+    omega (arith, count-high (view w) s, fifo-length-high (view w) s p b, causal-length-high (view w) s p b)
+log-inside w p false h there =
+    let s = h .reads in
+    let b = process-inside w p h there in
+    omega (arith, count-high (view w) s, fifo-length-high (view w) s p b)

@@ -1,11 +1,13 @@
 // Reads a journal on standard input, replays it, and writes the numbers of steps and of refused steps, then a line for
-// each process; or the number of the journal's refusal.
+// each process; or the number of the journal's refusal. The output is gathered in 1,024 bytes: a function that puts more
+// behind the first `at` of them says how many there are then.
 use definitions::Replaying;
 use libc::STDIN_FILENO;
 use libc::STDOUT_FILENO;
 ghost use mathlib.Core.Path.{_≡_};
-ghost use Prim.Native.Nat.{_<_};
+ghost use Prim.Native.Nat.{_+_, _≤_, _<_};
 ghost use lib.ListN.{length};
+ghost use Rattle.definitions.specs.World.{size, view};
 ghost use Rattle.keeps.specs.Keeps.{SoundWords};
 
 // Room for the longest journal and a byte more, so that a longer input is seen to be one.
@@ -15,80 +17,140 @@ fn room() -> [u8; 65537]
     [0; 65537]
 }
 
-// Writes a space and a number.
-fn print_number(n: usize) {
-    io::write_all(STDOUT_FILENO, b" ");
-    io::print_decimal(STDOUT_FILENO, n as u64);
+// Puts bytes behind what is gathered; where there is no room for them, writes what is gathered, and them.
+fn put(out: &mut [u8], at: usize, text: &[u8]) -> usize
+    requires { ⌜ (length (now out) ≡ 1024) × (at ≤ 1024) ⌝ }
+    ensures { λ r. ⌜ r ≤ 1024 ⌝ }
+{
+    if text.len() <= 1024 - at {
+        return at + bytes::copy(text, &mut out[at..]);
+    }
+    io::write_all(STDOUT_FILENO, &out[0..at]);
+    io::write_all(STDOUT_FILENO, text);
+    0
 }
 
-// Writes the items of a log, a space before each.
-fn print_items(items: &[u16]) {
+// Puts a number.
+fn put_decimal(out: &mut [u8], at: usize, n: usize) -> usize
+    requires { ⌜ (length (now out) ≡ 1024) × (at ≤ 1024) ⌝ }
+    ensures { λ r. ⌜ r ≤ 1024 ⌝ }
+{
+    let mut text = [0u8; 20];
+    let k = io::decimal(n as u64, &mut text);
+    put(out, at, &text[0..k])
+}
+
+// Puts a space and a number.
+fn put_number(out: &mut [u8], at: usize, n: usize) -> usize
+    requires { ⌜ (length (now out) ≡ 1024) × (at ≤ 1024) ⌝ }
+    ensures { λ r. ⌜ r ≤ 1024 ⌝ }
+{
+    let from = put(out, at, b" ");
+    put_decimal(out, from, n)
+}
+
+// Puts the items of a log, a space before each.
+fn put_items(out: &mut [u8], at: usize, items: &[u16]) -> usize
+    requires { ⌜ (length (now out) ≡ 1024) × (at ≤ 1024) ⌝ }
+    ensures { λ r. ⌜ r ≤ 1024 ⌝ }
+{
+    let mut to = at;
     let mut i: usize = 0;
     while i < items.len() {
-        print_number(cells::word(items, i));
+        to = put_number(out, to, cells::word(items, i));
         i += 1;
     }
+    to
 }
 
-// Writes whether process p is up.
-fn print_up(w: &[u16], p: usize)
-    requires { ⌜ (length (now w) ≡ 20480) × (p < 16) ⌝ }
+// Puts whether process p is up.
+fn put_up(out: &mut [u8], at: usize, w: &[u16], p: usize) -> usize
+    requires { ⌜ (length (now out) ≡ 1024) × (at ≤ 1024) × (length (now w) ≡ 20480) × (p < 16) ⌝ }
+    ensures { λ r. ⌜ r ≤ 1024 ⌝ }
 {
     if cells::word(w, cells::PROCESSES + p * cells::PROCESS + cells::UP) == 1 {
-        io::write_all(STDOUT_FILENO, b" up");
+        put(out, at, b" up")
     } else {
-        io::write_all(STDOUT_FILENO, b" down");
+        put(out, at, b" down")
     }
 }
 
-// Writes the line of process p: its number, whether it is up, its FIFO log, its causal log.
-fn print_process(w: &[u16], p: usize)
-    requires { ⌜ (length (now w) ≡ 20480) × (p < 16) ⌝ }
+// Puts the number of process p, and whether it is up.
+fn put_head(out: &mut [u8], at: usize, w: &[u16], p: usize) -> usize
+    requires { ⌜ (length (now out) ≡ 1024) × (at ≤ 1024) × (length (now w) ≡ 20480) × (p < 16) ⌝ }
+    ensures { λ r. ⌜ r ≤ 1024 ⌝ }
 {
-    io::print_decimal(STDOUT_FILENO, p as u64);
-    print_up(w, p);
-    io::write_all(STDOUT_FILENO, b" f");
-    print_items(reading::log(w, p, false));
-    io::write_all(STDOUT_FILENO, b" c");
-    print_items(reading::log(w, p, true));
-    io::write_all(STDOUT_FILENO, b"\n");
+    let to = put_decimal(out, at, p);
+    put_up(out, to, w, p)
 }
 
-// Writes the line of each process of a sound world.
-fn print_processes(w: &[u16])
-    requires { ⌜ SoundWords (now w) ⌝ }
+// Puts a log: its name and its items.
+fn put_log(out: &mut [u8], at: usize, name: &[u8], items: &[u16]) -> usize
+    requires { ⌜ (length (now out) ≡ 1024) × (at ≤ 1024) ⌝ }
+    ensures { λ r. ⌜ r ≤ 1024 ⌝ }
+{
+    let to = put(out, at, name);
+    put_items(out, to, items)
+}
+
+// Puts the line of process p: its number, whether it is up, its FIFO log, its causal log.
+fn put_process(out: &mut [u8], at: usize, w: &[u16], p: usize) -> usize
+    requires { ⌜ (length (now out) ≡ 1024) × (at ≤ 1024) × SoundWords (now w) × (p < view (now w) size) ⌝ }
+    ensures { λ r. ⌜ r ≤ 1024 ⌝ }
+{
+    let head = put_head(out, at, w, p);
+    let fifo = put_log(out, head, b" f", reading::log_of(w, p, false));
+    let causal = put_log(out, fifo, b" c", reading::log_of(w, p, true));
+    put(out, causal, b"\n")
+}
+
+// Puts the line of each process of a sound world.
+fn put_processes(out: &mut [u8], at: usize, w: &[u16]) -> usize
+    requires { ⌜ (length (now out) ≡ 1024) × (at ≤ 1024) × SoundWords (now w) ⌝ }
+    ensures { λ r. ⌜ r ≤ 1024 ⌝ }
 {
     let n = cells::word(w, cells::SIZE);
+    let mut to = at;
     let mut p: usize = 0;
     while p < n {
-        print_process(w, p);
+        to = put_process(out, to, w, p);
         p += 1;
     }
+    to
 }
 
-// Writes the line of the two numbers.
-fn print_counts(steps: usize, refused: usize) {
-    io::write_all(STDOUT_FILENO, b"steps");
-    print_number(steps);
-    io::write_all(STDOUT_FILENO, b" refused");
-    print_number(refused);
-    io::write_all(STDOUT_FILENO, b"\n");
+// Puts the line of the two numbers.
+fn put_counts(out: &mut [u8], steps: usize, refused: usize) -> usize
+    requires { ⌜ length (now out) ≡ 1024 ⌝ }
+    ensures { λ r. ⌜ r ≤ 1024 ⌝ }
+{
+    let mut to = put(out, 0, b"steps");
+    to = put_number(out, to, steps);
+    to = put(out, to, b" refused");
+    to = put_number(out, to, refused);
+    put(out, to, b"\n")
 }
 
-// Writes the line of a refused journal.
-fn print_refusal(number: u32) {
-    io::write_all(STDOUT_FILENO, b"journal ");
-    io::print_decimal(STDOUT_FILENO, number as u64);
-    io::write_all(STDOUT_FILENO, b"\n");
+// Puts the line of a refused journal.
+fn put_refusal(out: &mut [u8], number: u32) -> usize
+    requires { ⌜ length (now out) ≡ 1024 ⌝ }
+    ensures { λ r. ⌜ r ≤ 1024 ⌝ }
+{
+    let mut to = put(out, 0, b"journal");
+    to = put_number(out, to, number as usize);
+    put(out, to, b"\n")
 }
 
-// Replays a journal into the lent words and writes what came of it.
-fn run(w: &mut [u16], journal: &[u8]) {
+// Replays a journal into the lent words and puts what came of it.
+fn run(w: &mut [u16], journal: &[u8], out: &mut [u8]) -> usize
+    requires { ⌜ length (now out) ≡ 1024 ⌝ }
+    ensures { λ r. ⌜ r ≤ 1024 ⌝ }
+{
     match replaying::replay(w, journal) {
-        Replaying::Refused(r) => print_refusal(answers::number(r)),
+        Replaying::Refused(r) => put_refusal(out, answers::number(r)),
         Replaying::Done(steps, refused) => {
-            print_counts(steps, refused);
-            print_processes(w);
+            let to = put_counts(out, steps, refused);
+            put_processes(out, to, w)
         }
     }
 }
@@ -96,6 +158,8 @@ fn run(w: &mut [u16], journal: &[u8]) {
 fn main() {
     let mut w = [0u16; 20480];
     let mut journal = room();
+    let mut out = [0u8; 1024];
     let n = io::read_full(STDIN_FILENO, &mut journal);
-    run(&mut w, &journal[..n]);
+    let to = run(&mut w, &journal[..n], &mut out);
+    io::write_all(STDOUT_FILENO, &out[0..to]);
 }

@@ -18,30 +18,39 @@ enum-known-r c = search needs
 number-requires : tie.Need-number-requires
 number-requires c κs = search needs
 
-print-refusal-requires : tie.Need-print-refusal-requires
-print-refusal-requires c κs = search needs
+put-refusal-requires : tie.Need-put-refusal-requires
+put-refusal-requires c κs = search needs
 
 enum-known-steps : tie.Need-enum-known-steps
 enum-known-steps c = search needs
 
-print-counts-requires : tie.Need-print-counts-requires
-print-counts-requires c κs = search needs
+put-counts-requires : tie.Need-put-counts-requires
+put-counts-requires c κs = search needs
 
-print-processes-requires : tie.Need-print-processes-requires
-print-processes-requires c κs =
-    let d = c .before .before .before in
+put-processes-requires : tie.Need-put-processes-requires
+put-processes-requires c κs =
+    let d = c .before .before .before .before .before .before .before in
     let r = d .before .before .before .before in
-    let e = ap replaying-reply (sym (d .steps .given .1)) ∙ r .replay .ensures .0 in
-    subst SoundWords (sym (r .replay .ensures .1)) (replay-sound _ _ (not-refused _ _ _ e))
+    let e = ap replaying-reply (sym (d .steps .given .1)) ∙ r .replay .ensures .0 in (
+      search needs,
+      search needs,
+      subst SoundWords (sym (r .replay .ensures .1)) (replay-sound _ _ (not-refused _ _ _ e)),
+    )
 
 same-length : tie.Need-same-length
 same-length c = search needs
 
+same-length-2 : tie.Need-same-length-2
+same-length-2 c = search needs
+
 returns : tie.Need-returns
 returns c = search needs
 
-same-length-2 : tie.Need-same-length-2
-same-length-2 c = search needs
+same-length-3 : tie.Need-same-length-3
+same-length-3 c = search needs
+
+same-length-4 : tie.Need-same-length-4
+same-length-4 c = search needs
 
 returns-2 : tie.Need-returns-2
 returns-2 c = search needs
@@ -53,11 +62,13 @@ run-spec =
     replay-requires
     enum-known-r
     number-requires
-    print-refusal-requires
+    put-refusal-requires
     enum-known-steps
-    print-counts-requires
-    print-processes-requires
+    put-counts-requires
+    put-processes-requires
     same-length
-    returns
     same-length-2
+    returns
+    same-length-3
+    same-length-4
     returns-2)
