@@ -30,11 +30,32 @@ fn put(out: &mut [u8], at: usize, text: &[u8]) -> usize
     0
 }
 
-// Puts a number.
+// Puts a byte, in the same way.
+fn put_byte(out: &mut [u8], at: usize, byte: u8) -> usize
+    requires { ⌜ (length (now out) ≡ 1024) × (at ≤ 1024) ⌝ }
+    ensures { λ r. ⌜ r ≤ 1024 ⌝ }
+{
+    if at < 1024 {
+        out[at] = byte;
+        return at + 1;
+    }
+    io::write_all(STDOUT_FILENO, &out[0..at]);
+    out[0] = byte;
+    1
+}
+
+// Puts a number; one of at most two digits, as those of messages and processes are, digit by digit.
 fn put_decimal(out: &mut [u8], at: usize, n: usize) -> usize
     requires { ⌜ (length (now out) ≡ 1024) × (at ≤ 1024) ⌝ }
     ensures { λ r. ⌜ r ≤ 1024 ⌝ }
 {
+    if n < 10 {
+        return put_byte(out, at, b'0' + n as u8);
+    }
+    if n < 100 {
+        let to = put_byte(out, at, b'0' + (n / 10) as u8);
+        return put_byte(out, to, b'0' + (n % 10) as u8);
+    }
     let mut text = [0u8; 20];
     let k = io::decimal(n as u64, &mut text);
     put(out, at, &text[0..k])
@@ -45,8 +66,8 @@ fn put_number(out: &mut [u8], at: usize, n: usize) -> usize
     requires { ⌜ (length (now out) ≡ 1024) × (at ≤ 1024) ⌝ }
     ensures { λ r. ⌜ r ≤ 1024 ⌝ }
 {
-    let from = put(out, at, b" ");
-    put_decimal(out, from, n)
+    let to = put_byte(out, at, b' ');
+    put_decimal(out, to, n)
 }
 
 // Puts the items of a log, a space before each.
