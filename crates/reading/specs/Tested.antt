@@ -12,8 +12,8 @@ use Rattle.definitions.specs.General.{needs, gives, refuses, reply}
 use Rattle.definitions.specs.World.{size, addr, encode, view}
 use Rattle.definitions.specs.Sound.{sound}
 use Rattle.definitions.specs.Steps.{read, refusal, after}
-use Rattle.definitions.specs.Words.{needs-world, step-refusal, stepped-words, settle-words, settled-words, settle-reply, log-length, log-start, log-refusal, log-words}
-use Rattle.base.specs.Refusals.{needs-none}
+use Rattle.definitions.specs.Words.{needs-world, step-refusal, stepped-words, settle-words, settled-words, settle-reply, log-length, log-start, log-refusal, log-words, length-reply}
+use Rattle.base.specs.Refusals.{needs-none, reply-gives}
 use Rattle.world.specs.SoundLaws.{sound-facts, size-high, count-high, fifo-length-high, causal-length-high}
 use Rattle.keeps.specs.Keeps.{SoundWords, sound-words-taken, taken-sound-words, sound-refusal, sound-stepped}
 
@@ -116,3 +116,12 @@ log-inside w p false h there =
     let s = h .reads in
     let b = process-inside w p h there in
     omega (arith, count-high (view w) s, fifo-length-high (view w) s p b)
+
+-- and so does one whose length is given
+pub length-given : (w : List ℕ) (p : ℕ) (log : Bool) (n : ℕ) → gives n ≡ length-reply w p log
+    → (p < 16) × (log-start p log + n ≤ 20480)
+unfolding length-reply log-refusal
+length-given w p log n e =
+    let r = reply-gives (log-refusal w p) n (log-length (view w) p log) e in
+    let z = present w (addr size) p 4 (r .0) in
+    (process-inside w p (z .0) (z .1), omega (arith, r .1, log-inside w p log (z .0) (z .1)))

@@ -5,7 +5,7 @@ use native.Mathlib.Omega.{arith}
 use Rattle.definitions.specs.General.{gives}
 use Rattle.definitions.specs.Words.{log-start, length-reply}
 use Rattle.definitions.specs.Answers.{amount-reply}
-use Rattle.reading.specs.Tested.{logged, log-inside}
+use Rattle.reading.specs.Tested.{length-given}
 use borrow.Author.Needs.{needs}
 use Rattle.engine.proofs.wt_world_log.Statement.{statement}
 use Rattle.engine.proofs.wt_world_log.Tie as tie
@@ -29,8 +29,7 @@ inside : (c : tie.After-known-told)
     → (c .before .before .before .before .before .args .p < 16)
     × (log-start (c .before .before .before .before .before .args .p)
     (c .before .before .before .before .before .args .causal) + c .before .n .given .0 .0 ≤ 20480)
-inside c = log-inside (c .before .before .before .before .before .args .w .now) _ _ _
-    (logged _ _ _ _ (replied c))
+inside c = length-given (c .before .before .before .before .before .args .w .now) _ _ _ (replied c)
 
 start-requires : tie.Need-start-requires
 start-requires c κs = inside c .0
