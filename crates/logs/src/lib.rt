@@ -1,7 +1,7 @@
-// The logs of a world: where each stands among its words, how long it is, and a message appended.
+// The logs of a world: where each stands among its words, how long it is, the log itself, and a message appended.
 ghost use mathlib.Core.Path.{_≡_};
-ghost use Prim.Native.Nat.{_<_};
-ghost use lib.ListN.{length};
+ghost use Prim.Native.Nat.{_+_, _≤_, _<_};
+ghost use lib.ListN.{length, take, drop};
 ghost use Rattle.definitions.specs.General.{pick};
 ghost use Rattle.definitions.specs.World.{addr, view};
 ghost use Rattle.definitions.specs.Words.{log-length, log-start};
@@ -40,6 +40,16 @@ pub fn items(w: &[u16], p: usize, causal: bool) -> usize
     ensures { λ r. ⌜ r ≡ log-length (view (now (w .entry))) p causal ⌝ }
 {
     cells::word(w, length_at(p, causal))
+}
+
+// The log itself, as a part of the words, where it lies among them.
+pub fn part(w: &[u16], p: usize, causal: bool) -> &[u16]
+    requires { ⌜ (length (now w) ≡ 20480) × (p < 16) × (log-start p causal + log-length (view (now w)) p causal ≤ 20480) ⌝ }
+    ensures { λ r. ⌜ now r ≡ take (log-length (view (now (w .entry))) p causal) (drop (log-start p causal) (now (w .entry))) ⌝ }
+{
+    let n = items(w, p, causal);
+    let at = start(p, causal);
+    &w[at..at + n]
 }
 
 // Message m appended to it.

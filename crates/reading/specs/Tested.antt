@@ -106,7 +106,7 @@ log-there w p log h there = rw (← is-present w (addr size) p 5 (sound-words-ta
 pub process-inside : (w : List ℕ) (p : ℕ) → SoundWords w → p < view w size → p < 16
 process-inside w p h there = omega (arith, size-high (view w) (h .reads))
 
-pub log-inside : (w : List ℕ) (p : ℕ) (log : Bool) → SoundWords w → p < view w size
+log-inside : (w : List ℕ) (p : ℕ) (log : Bool) → SoundWords w → p < view w size
     → log-start p log + log-length (view w) p log ≤ 20480
 log-inside w p true h there =
     let s = h .reads in
@@ -117,7 +117,12 @@ log-inside w p false h there =
     let b = process-inside w p h there in
     omega (arith, count-high (view w) s, fifo-length-high (view w) s p b)
 
--- and so does one whose length is given
+-- what `logs::part` asks for
+pub log-lies : (w : List ℕ) (p : ℕ) (log : Bool) → SoundWords w → p < view w size
+    → (length w ≡ 20480) × (p < 16) × (log-start p log + log-length (view w) p log ≤ 20480)
+log-lies w p log h there = (h .long, process-inside w p h there, log-inside w p log h there)
+
+-- a log whose length is given lies among them too
 pub length-given : (w : List ℕ) (p : ℕ) (log : Bool) (n : ℕ) → gives n ≡ length-reply w p log
     → (p < 16) × (log-start p log + n ≤ 20480)
 unfolding length-reply log-refusal

@@ -1,15 +1,13 @@
-// Words that are lent as a world, tested; the logs of a world and the order numbers of its messages read. Only `log_of`
-// asks anything of its caller: a world known to be sound.
+// Words that are lent as a world, tested; the logs of a world and the order numbers of its messages read. None of it asks
+// anything of its caller.
 use definitions::Amount;
 use definitions::OrderNumber;
 use definitions::Outcome;
 use definitions::Refusal;
 ghost use mathlib.Core.Path.{_≡_};
 ghost use Prim.Native.Nat.{_<_};
-ghost use Rattle.definitions.specs.World.{size, view};
 ghost use Rattle.definitions.specs.Words.{needs-world, log-words, length-reply, order-reply};
 ghost use Rattle.definitions.specs.Answers.{refusal-number, outcome-number, amount-reply, order-number-reply};
-ghost use Rattle.keeps.specs.Keeps.{SoundWords};
 ghost use Rattle.reading.specs.Tested.{present-refusal};
 
 // Whether the words are a sound world: 1, then 2.
@@ -50,16 +48,6 @@ pub fn log_length(w: &[u16], p: usize, causal: bool) -> Amount
     Amount::Is(logs::items(w, p, causal))
 }
 
-// The FIFO or the causal log of process p of a sound world, as a part of it.
-pub fn log_of(w: &[u16], p: usize, causal: bool) -> &[u16]
-    requires { ⌜ SoundWords (now w) × (p < view (now w) size) ⌝ }
-    ensures { λ r. ⌜ now r ≡ log-words (now (w .entry)) p causal ⌝ }
-{
-    let n = logs::items(w, p, causal);
-    let at = logs::start(p, causal);
-    &w[at..at + n]
-}
-
 // The FIFO or the causal log of process p, as a part of the world; empty where it is refused.
 pub fn log(w: &[u16], p: usize, causal: bool) -> &[u16]
     ensures { λ r. ⌜ now r ≡ log-words (now (w .entry)) p causal ⌝ }
@@ -67,7 +55,7 @@ pub fn log(w: &[u16], p: usize, causal: bool) -> &[u16]
     if let Outcome::Refused(_) = present(w, cells::SIZE, p, Refusal::NoProcess) {
         return &w[0..0];
     }
-    log_of(w, p, causal)
+    logs::part(w, p, causal)
 }
 
 // The order number of message m: 1, 2, then 7.

@@ -120,8 +120,8 @@ fn put_process(out: &mut [u8], at: usize, w: &[u16], p: usize) -> usize
     ensures { λ r. ⌜ r ≤ 1024 ⌝ }
 {
     let head = put_head(out, at, w, p);
-    let fifo = put_log(out, head, b" f", reading::log_of(w, p, false));
-    let causal = put_log(out, fifo, b" c", reading::log_of(w, p, true));
+    let fifo = put_log(out, head, b" f", logs::part(w, p, false));
+    let causal = put_log(out, fifo, b" c", logs::part(w, p, true));
     put(out, causal, b"\n")
 }
 

@@ -1,10 +1,13 @@
 -- `reading::log` meets its contract: 1, 2, then 5 leave it empty, else the world is sound and the process there.
 -- Assumes nothing.
-use Rattle.definitions.specs.World.{size, addr}
+use mathlib.Core.Path.{_∙_}
+use Prim.Native.Nat.{_<_}
+use Rattle.definitions.specs.World.{size, addr, view}
 use Rattle.definitions.specs.Words.{log-refusal}
 use Rattle.definitions.specs.Answers.{refusal-number}
 use Rattle.answers.specs.Laws.{refusal-some, taken-zero, refused-number}
-use Rattle.reading.specs.Tested.{present, log-refused}
+use Rattle.keeps.specs.Keeps.{SoundWords}
+use Rattle.reading.specs.Tested.{present, log-refused, log-there, log-lies}
 use borrow.Author.Needs.{needs}
 use Rattle.reading.proofs.log.Statement.{statement}
 use Rattle.reading.proofs.log.Tie as tie
@@ -37,14 +40,25 @@ returns c =
 enum-told-2 : tie.Need-enum-told-2
 enum-told-2 c = search needs
 
-log-of-requires : tie.Need-log-of-requires
-log-of-requires c κs =
+-- the world is sound, and the process there
+sound-there : (c : tie.After-enum-told2) → let a = c .before .before .before .before .args in
+    SoundWords (a .w .now) × (a .p < view (a .w .now) size)
+sound-there c =
     let l = c .before .before in
     let a = l .before .before .args in
     present (a .w .now) (addr size) (a .p) 4 (taken-zero (c .enum-told2 .given .1) (l .present .ensures))
 
+part-requires : tie.Need-part-requires
+part-requires c κs =
+    let a = c .before .before .before .before .args in
+    let h = sound-there c in
+    log-lies (a .w .now) (a .p) (a .causal) (h .0) (h .1)
+
 returns-2 : tie.Need-returns-2
-returns-2 c = search needs
+returns-2 c =
+    let a = c .before .before .before .before .before .args in
+    let h = sound-there (c .before) in
+    c .part .ensures ∙ log-there (a .w .now) (a .p) (a .causal) (h .0) (h .1)
 
 pub log-spec : {M : Type 1} → statement M
 log-spec =
@@ -57,5 +71,5 @@ log-spec =
     part-result-end
     returns
     enum-told-2
-    log-of-requires
+    part-requires
     returns-2)

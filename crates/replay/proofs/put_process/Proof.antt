@@ -1,5 +1,6 @@
 -- `replay::put_process` is safe and ends: the process is one of a sound world. Assumes libc's contract of write.
-use Rattle.reading.specs.Tested.{process-inside}
+use mathlib.Core.Bool.{true, false}
+use Rattle.reading.specs.Tested.{process-inside, log-lies}
 use borrow.Author.Needs.{needs}
 use Rattle.replay.proofs.put_process.Statement.{statement}
 use Rattle.replay.proofs.put_process.Tie as tie
@@ -12,8 +13,10 @@ put-head-requires c κs =
 slice-aggregate-put-log : tie.Need-slice-aggregate-put-log
 slice-aggregate-put-log c = search needs
 
-log-of-requires : tie.Need-log-of-requires
-log-of-requires c κs = search needs
+part-requires : tie.Need-part-requires
+part-requires c κs =
+    let b = c .before .before .before .before .before .before .before .before in
+    log-lies (b .args .w .now) (b .args .p) false (b .pre .2) (b .pre .3)
 
 put-log-requires : tie.Need-put-log-requires
 put-log-requires c κs = search needs
@@ -21,8 +24,11 @@ put-log-requires c κs = search needs
 slice-aggregate-put-log-2 : tie.Need-slice-aggregate-put-log-2
 slice-aggregate-put-log-2 c = search needs
 
-log-of-requires-2 : tie.Need-log-of-requires-2
-log-of-requires-2 c κs = search needs
+part-requires-2 : tie.Need-part-requires-2
+part-requires-2 c κs =
+    let b =
+    c .before .before .before .before .before .before .before .before .before .before .before .before .before .before in
+    log-lies (b .args .w .now) (b .args .p) true (b .pre .2) (b .pre .3)
 
 put-log-requires-2 : tie.Need-put-log-requires-2
 put-log-requires-2 c κs = search needs
@@ -45,10 +51,10 @@ put-process-spec =
     (tie.spec
     put-head-requires
     slice-aggregate-put-log
-    log-of-requires
+    part-requires
     put-log-requires
     slice-aggregate-put-log-2
-    log-of-requires-2
+    part-requires-2
     put-log-requires-2
     slice-aggregate-put
     put-requires
