@@ -46,11 +46,14 @@ all-zero-snoc (a ∷ s) b = ap (λ (x : Bool). eqb a 0 && x) (all-zero-snoc s b)
     go true = refl
     go false = refl
 
+pub all-zero-more : (s : List ℕ) (i : ℕ) → i < length s
+    → all-zero (take (i + 1) s) ≡ (all-zero (take i s) && eqb (getD s i 0) 0)
+all-zero-more s i h = rw (add-one i, take-suc s i 0 h) (all-zero-snoc (take i s) (getD s i 0))
+
 -- any has gathered the first i bytes; now it has gathered the next one too
 pub gathered : (s : List ℕ) (i any : ℕ) → i < length s → eqb any 0 ≡ all-zero (take i s)
     → eqb (bitOr any (getD s i 0)) 0 ≡ all-zero (take (i + 1) s)
-gathered s i any h e =
-    rw (add-one i, take-suc s i 0 h, all-zero-snoc (take i s) (getD s i 0), or-zero any (getD s i 0), e)
+gathered s i any h e = rw (or-zero any (getD s i 0), e) (sym (all-zero-more s i h))
 
 -- a list that is all zero, and the other way round
 pub zeros-are : (s : List ℕ) → all-zero s ≡ true → s ≡ replicate (length s) 0
