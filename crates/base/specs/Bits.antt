@@ -14,9 +14,9 @@ use Rattle.definitions.specs.General.{pick, bit, with, without, mask-of, only}
 use Rattle.base.specs.Tests.{clash, either-l, either-r, le-or-lt}
 use Rattle.base.specs.Search.{every-true, every-intro, every-cong}
 
--- 1 << p does not lose its bit
-pub one-shl : (p : ℕ) → p < 16 → (1 * 2 ^ p) % 2 ^ 16 ≡ 2 ^ p
-one-shl p h = shl-exact {a = 1} 1 p 16 (lit< tt) (omega arith) ∙ one-mul (2 ^ p)
+-- 1 << p in k bits does not lose its bit
+pub one-shl : (k p : ℕ) → p < k → (1 * 2 ^ p) % 2 ^ k ≡ 2 ^ p
+one-shl k p h = shl-exact {a = 1} 1 p k (lit< tt) (omega arith) ∙ one-mul (2 ^ p)
 
 -- the one bit of m under a mask of one
 pub and-one : (m p : ℕ) → bitAnd m (2 ^ p) ≡ (m / 2 ^ p % 2) * 2 ^ p

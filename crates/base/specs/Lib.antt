@@ -1,6 +1,7 @@
 pub mod Tests
 pub mod Refusals
 pub mod Search
+pub mod Sets
 pub mod Count
 pub mod Sums
 pub mod Loop

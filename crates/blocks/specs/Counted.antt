@@ -3,11 +3,10 @@
 use mathlib.Core.Path.{_≡_, sym, ap, ap₂, _∙_}
 use mathlib.Core.Bool.{Bool, true, _&&_}
 use mathlib.Core.List.{List}
-use Prim.Native.Nat.{ℕ, _+_, _-_, _*_, _/_, _%_, _<_}
+use Prim.Native.Nat.{ℕ, _+_, _*_, _/_, _%_, _<_}
 use native.Mathlib.Omega.{arith}
 use lib.Dec.{leb}
 use lib.ListN.{getD}
-use borrow.Author.Tests.{lt-ltb, le-ltb}
 use Rattle.definitions.specs.General.{pick}
 use Rattle.definitions.specs.World.{Cell, State, count, addr, view, is-process, has-group}
 use Rattle.definitions.specs.Sound.{word, fine}
@@ -15,26 +14,9 @@ use Rattle.base.specs.Tests.{both}
 use Rattle.world.specs.Layout.{Within}
 use Rattle.ranges.specs.Ranges.{within-at}
 use Rattle.ranges.specs.Laws.{every-split}
-use Rattle.limits.specs.Limits.{exists-at, word-limit}
+use Rattle.limits.specs.Limits.{word-limit}
 use Rattle.regions.specs.Runs.{fine-run, run-split, run-of}
 use Rattle.blocks.specs.Known.{Bounds}
-
--- ---- what the places of the table count for
-exists-pair : (s : State) (i : ℕ) → i < 128 → exists-at s i ≡ (has-group s (i / 16) && is-process s (i % 16))
-unfolding exists-at
-exists-pair s i l = rw (lt-ltb i 128 l)
-
-exists-group : (s : State) (i : ℕ) → i < 8 → exists-at s (128 + i) ≡ has-group s i
-unfolding exists-at
-exists-group s i l =
-    rw (le-ltb (128 + i) 128 (omega arith), lt-ltb (128 + i) 136 (omega arith))
-    (ap (has-group s) (let e : 128 + i - 128 ≡ i = omega arith in e))
-
-exists-process : (s : State) (i : ℕ) → i < 16 → exists-at s (136 + i) ≡ is-process s i
-unfolding exists-at
-exists-process s i l =
-    rw (le-ltb (136 + i) 128 (omega arith), le-ltb (136 + i) 136 (omega arith))
-    (ap (is-process s) (let e : 136 + i - 136 ≡ i = omega arith in e))
 
 -- a word at most its limit
 counted : (u e : Bool) (x k y : ℕ) → u ≡ e → y ≡ pick e k 0 → leb x y ≡ word u x (leb x k)
@@ -60,17 +42,15 @@ module _ (w t : List ℕ) (h : Bounds (view w) t) (b : Bool) (here : b ≡ true)
       (λ i l. counted (b && has-group s (i / 16) && is-process s (i % 16))
       (has-group s (i / 16) && is-process s (i % 16)) (getD w (a + i) 0) (s count) _
       (ap (λ (x : Bool). x && has-group s (i / 16) && is-process s (i % 16)) here)
-      (ap (λ (j : ℕ). getD t j 0) (let e : 0 + i ≡ i = omega arith in e) ∙ h .at i (omega arith)
-      ∙ ap (λ (e : Bool). pick e (s count) 0) (exists-pair s i l))
+      (ap (λ (j : ℕ). getD t j 0) (let e : 0 + i ≡ i / 16 * 16 + i % 16 = omega arith in e)
+      ∙ h .pairs (i / 16) (i % 16) (omega arith) (omega arith))
       ∙ ap (λ (x : ℕ). word (b && has-group s (i / 16) && is-process s (i % 16)) x (leb x (s count)))
       (ap (λ (j : ℕ). getD w j 0) (sym (place i))) ∙ sym (fp (i / 16) (i % 16))))
       (run-of s (a + 128) 8 one (λ i. leb (getD w (a + (128 + i)) 0) (getD t (0 + (128 + i)) 0)) wo
       (λ i l. ao i)
       (λ i l. counted (b && has-group s i) (has-group s i) (getD w (a + (128 + i)) 0) (s count) _
       (ap (λ (x : Bool). x && has-group s i) here)
-      (ap (λ (j : ℕ). getD t j 0) (let e : 0 + (128 + i) ≡ 128 + i = omega arith in e)
-      ∙ h .at (128 + i) (omega arith)
-      ∙ ap (λ (e : Bool). pick e (s count) 0) (exists-group s i l))
+      (ap (λ (j : ℕ). getD t j 0) (let e : 0 + (128 + i) ≡ 128 + i = omega arith in e) ∙ h .alone i l)
       ∙ ap (λ (x : ℕ). word (b && has-group s i) x (leb x (s count)))
       (ap (λ (j : ℕ). getD w j 0) (let z = ao i in let e : a + (128 + i) ≡ addr (one i) = omega arith in e))
       ∙ sym (fo i)))
@@ -93,7 +73,6 @@ module _ (w t : List ℕ) (h : Bounds (view w) t) (b : Bool) (here : b ≡ true)
       run-of (view w) a 16 one (λ i. leb (getD w (a + i) 0) (getD t (136 + i) 0)) wo (λ i l. ao i)
       (λ i l. counted (b && is-process (view w) i) (is-process (view w) i) (getD w (a + i) 0) (view w count) _
       (ap (λ (x : Bool). x && is-process (view w) i) here)
-      (h .at (136 + i) (omega arith)
-      ∙ ap (λ (e : Bool). pick e (view w count) 0) (exists-process (view w) i l))
+      (h .processes i l)
       ∙ ap (λ (x : ℕ). word (b && is-process (view w) i) x (leb x (view w count)))
       (ap (λ (j : ℕ). getD w j 0) (sym (ao i))) ∙ sym (fo i))

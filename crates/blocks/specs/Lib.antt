@@ -3,3 +3,4 @@ pub mod Counted
 pub mod Logs
 pub mod Process
 pub mod Message
+pub mod Places

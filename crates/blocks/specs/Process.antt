@@ -1,24 +1,29 @@
 -- The block of a process: its parts, in the order of the test, are the whole block. Assumes nothing.
-use mathlib.Core.Path.{_≡_, refl, sym, ap, ap₂, _∙_}
+use mathlib.Core.Path.{_≡_, refl, sym, ap, ap₂, _∙_, subst}
 use mathlib.Core.Bool.{Bool, true, false, _&&_}
 use mathlib.Core.List.{List}
 use Prim.Native.Nat.{ℕ, _+_, _*_, _/_, _^_, _≤_, _<_}
 use native.Mathlib.Omega.{arith}
+use lib.Bits.{bitAnd}
 use lib.Dec.{ltb, leb, eqb}
-use borrow.Author.Tests.{lt-ltb, ltb-true}
-use Rattle.definitions.specs.General.{every, absent, only}
-use Rattle.definitions.specs.World.{State, size, count, group, trust, counter, sequence, delivered, up, fifo-length, causal-length, fifo, view, is-process, is-message}
-use Rattle.definitions.specs.Sound.{addressee, word, item, fit, fine}
-use Rattle.base.specs.Tests.{both, both-l, both-r, both-i, same}
-use Rattle.world.specs.SoundLaws.{word-in, word-leb}
+use borrow.Author.Tests.{lt-ltb}
+use Rattle.definitions.specs.General.{every, tally, bit, only}
+use Rattle.definitions.specs.World.{State, size, count, group, trust, counter, sequence, delivered, up, fifo-length, causal-length, fifo, causal, view, is-process}
+use Rattle.definitions.specs.Sound.{word, fit, fine}
+use Rattle.base.specs.Tests.{both, both-l, both-r, both-i, clash, same}
+use Rattle.world.specs.SoundLaws.{word-leb}
+use Rattle.sets.specs.Members.{Members}
+use Rattle.sets.specs.Powers.{Low}
 use Rattle.ranges.specs.Ranges.{within-at}
-use Rattle.ranges.specs.Sets.{shift-only}
+use Rattle.base.specs.Sets.{shift-only}
+use Rattle.logtest.specs.Log.{log-at, Passable, Passed}
+use Rattle.limits.specs.Senders.{Senders}
 use Rattle.regions.specs.Runs.{fine-run, run-one, run-join, run-part, run-cell}
 use Rattle.regions.specs.Rows.{Block}
-use Rattle.regions.specs.Nexts.{Countable}
-use Rattle.blocks.specs.Known.{Ready, Lengths, sender-low}
+use Rattle.regions.specs.Nexts.{nexts-at, nexts-law}
+use Rattle.blocks.specs.Known.{Ready, Tables, Lengths, from-small}
 use Rattle.blocks.specs.Counted.{table-law, row-law}
-use Rattle.blocks.specs.Logs.{logs-fine}
+use Rattle.blocks.specs.Logs.{tidy-log, tidy-logs, logs-fine, LogsOf, tidy-low, fine-tidy, logs-law, passed-counted}
 
 -- What stands before the logs and does not rest on them.
 unfoldable pub front-fine : State → ℕ → Bool
@@ -147,35 +152,50 @@ module _ (w : List ℕ) (p n messages : ℕ) (limits to : List ℕ) (h : Ready w
         let m = h .sized .few in
         record { fifo-few = omega arith; causal-few = omega arith }
 
-    item-low : logs-fine (view w) p ≡ true → (i : ℕ) → i < view w (fifo-length p) → i < 64
-        → view w (fifo p i) < view w count
-    unfolding logs-fine fine fit item
-    item-low e i k r =
-        let x : ℕ = view w (fifo p i) in
-        let f : fine (view w) (fifo p i) ≡ true =
-        run-cell (view w) (3 + p * 429 + 301) 64
-        (both-l (fine-run (view w) (3 + p * 429 + 301) 64) (fine-run (view w) (3 + p * 429 + 365) 64) e)
-        (fifo p i) (low, r)
-        (omega arith) (omega arith) in
-        let a = word-in (ltb i (view w (fifo-length p))) x _ (word-in (is-process (view w) p) x _ f is-here)
-        (lt-ltb i (view w (fifo-length p)) k) in
-        ltb-true x (view w count)
-        (both-l (is-message (view w) x) (addressee (view w) x p)
-        (both-l (is-message (view w) x && addressee (view w) x p) (absent i x (λ j. view w (fifo p j))) a))
+    -- ---- what the passes over the logs want, and what they tell
+    module _ (from bits : List ℕ) (t : Tables (view w) messages from bits) (r : Lengths (view w) p)
+        (tidy : tidy-logs (view w) p ≡ true) where
+      pub passable : (f : ℕ) → f ≡ view w (fifo-length p) → Passable w (3 + p * 429 + 301) f to from bits
+      unfolding tidy-logs
+      passable f e = record {
+        items = record {
+          inside = omega (arith, h .sized .long, low, r .fifo-few);
+          low = λ i k. tidy-low (view w (fifo-length p)) (λ j. view w (fifo p j))
+              (both-l (tidy-log (view w (fifo-length p)) (λ j. view w (fifo p j)))
+              (tidy-log (view w (causal-length p)) (λ j. view w (causal p j))) tidy) (r .fifo-few) i (omega arith);
+        };
+        few = omega (arith, r .fifo-few);
+        addressees = h .to .long;
+        senders = t .senders .long;
+        small = from-small w n messages limits to from bits h t;
+        powers = t .powers;
+      }
 
-    pub countable : (f : ℕ) → f ≡ view w (fifo-length p) → Lengths (view w) p → logs-fine (view w) p ≡ true
-        → Countable w (3 + p * 429 + 301) f messages
-    countable f e r g =
-        let k = r .fifo-few in
-        let ec = h .sized .count-is in
-        record {
-          long = h .sized .long;
-          inside = omega (arith, low);
-          few = omega arith;
-          most = h .sized .few;
-          items = λ i j. omega (arith, item-low g i (omega arith) (omega arith));
-          of = sender-low w n messages limits to h;
-        }
+      pub causal-items : (c : ℕ) → c ≡ view w (causal-length p) → Low w (3 + p * 429 + 365) c
+      unfolding tidy-logs
+      causal-items c e = record {
+        inside = omega (arith, h .sized .long, low, r .causal-few);
+        low = λ i k. tidy-low (view w (causal-length p)) (λ j. view w (causal p j))
+            (both-r (tidy-log (view w (fifo-length p)) (λ j. view w (fifo p j)))
+            (tidy-log (view w (causal-length p)) (λ j. view w (causal p j))) tidy) (r .causal-few) i (omega arith);
+      }
+
+      pub logs-told : (f c fifos all causals : ℕ) (counts : List ℕ) (next : Bool) → f ≡ view w (fifo-length p)
+          → c ≡ view w (causal-length p) → causals < 2 ^ 64
+          → Passed (log-at w (3 + p * 429 + 301)) f to from fifos all counts
+          → Members causals c (log-at w (3 + p * 429 + 365))
+          → next ≡ nexts-at w (3 + p * 429 + 138) n counts
+          → LogsOf (view w) p
+          ((((eqb (tally 64 (bit fifos)) f && bit all p) && eqb (tally 64 (bit causals)) c)
+          && eqb (bitAnd causals fifos) causals) && next) fifos causals
+      logs-told f c fifos all causals counts next ef ec small a b en =
+          let few : view w count ≤ 64 = omega (arith, h .sized .count-is, h .sized .few) in
+          logs-law w p low (block .here) to from counts (h .to) f c fifos all causals ef ec
+          (omega (arith, r .fifo-few)) (omega (arith, r .causal-few)) tidy a b next small
+          (λ e. en ∙ nexts-law w p n f counts block (h .sized .size-is) ef
+          (passed-counted w p low (block .here) to from counts (h .to) f c fifos all causals ef ec
+          (omega (arith, r .fifo-few)) (omega (arith, r .causal-few)) tidy a b
+          (subst (λ (k : ℕ). Senders (view w) k from) (h .sized .count-is) (t .senders)) few e))
 
     -- ---- the whole block
     parts-whole : front-fine (view w) p ≡ true → logs-fine (view w) p ≡ true
@@ -266,19 +286,33 @@ module _ (w : List ℕ) (p n messages : ℕ) (limits to : List ℕ) (h : Ready w
         && (fine-run (view w) (3 + p * 429 + 173) 64 && fine-run (view w) (3 + p * 429 + 237) 64)))) e)
         ∙ block-law
 
-    pub block-logs : front-fine (view w) p ≡ true → logs-fine (view w) p ≡ false
+    pub block-tidy : front-fine (view w) p ≡ true → tidy-logs (view w) p ≡ false
         → false ≡ fine-run (view w) (3 + p * 429) 429
-    block-logs f e =
+    block-tidy f e =
         sym (ap₂ (λ (a b : Bool). a && (b && (fine-run (view w) (3 + p * 429 + 138) 16
-        && (fine-run (view w) (3 + p * 429 + 173) 64 && fine-run (view w) (3 + p * 429 + 237) 64)))) f e)
+        && (fine-run (view w) (3 + p * 429 + 173) 64 && fine-run (view w) (3 + p * 429 + 237) 64)))) f
+        (untidy (logs-fine (view w) p) refl))
         ∙ block-law
+      where
+        untidy : (b : Bool) → logs-fine (view w) p ≡ b → logs-fine (view w) p ≡ false
+        untidy true q =
+            let r = lengths f in
+            clash (fine-tidy w p low (let e = h .sized .size-is in omega arith)
+            (omega (arith, h .sized .count-is, h .sized .few)) q (r .fifo-few) (r .causal-few)) e
+        untidy false q = q
 
-    pub block-rest : front-fine (view w) p ≡ true → logs-fine (view w) p ≡ true → (x y : Bool)
-        → x ≡ fine-run (view w) (3 + p * 429 + 138) 16
+    pub block-rest : front-fine (view w) p ≡ true → (x y : Bool)
+        → x ≡ (logs-fine (view w) p && fine-run (view w) (3 + p * 429 + 138) 16)
         → y ≡ (fine-run (view w) (3 + p * 429 + 173) 64 && fine-run (view w) (3 + p * 429 + 237) 64)
         → (x && y) ≡ fine-run (view w) (3 + p * 429) 429
-    block-rest f e x y ex ey =
+    block-rest f x y ex ey =
         ap₂ both ex ey
-        ∙ sym (ap₂ (λ (a b : Bool). a && (b && (fine-run (view w) (3 + p * 429 + 138) 16
-        && (fine-run (view w) (3 + p * 429 + 173) 64 && fine-run (view w) (3 + p * 429 + 237) 64)))) f e)
+        ∙ assoc (logs-fine (view w) p) (fine-run (view w) (3 + p * 429 + 138) 16)
+        (fine-run (view w) (3 + p * 429 + 173) 64 && fine-run (view w) (3 + p * 429 + 237) 64)
+        ∙ sym (ap (λ (a : Bool). a && (logs-fine (view w) p && (fine-run (view w) (3 + p * 429 + 138) 16
+        && (fine-run (view w) (3 + p * 429 + 173) 64 && fine-run (view w) (3 + p * 429 + 237) 64)))) f)
         ∙ block-law
+      where
+        assoc : (a b c : Bool) → ((a && b) && c) ≡ (a && (b && c))
+        assoc true b c = refl
+        assoc false b c = refl

@@ -1,10 +1,10 @@
 -- A FIFO delivery and the cascade: the bounds on the way, the parts of a delivery one after the other, and
 -- the loop of the code beside the definition's. The FIFO log has room for what is left, since the loop
 -- counts down how many messages it lacks. Assumes nothing.
-use mathlib.Core.Path.{_≡_, refl, sym, ap, ap₂, _∙_}
+use mathlib.Core.Path.{_≡_, refl, ap, _∙_}
 use mathlib.Core.Bool.{false}
 use mathlib.Core.List.{List}
-use Prim.Native.Nat.{ℕ, suc, _+_, _-_, _≤_, _<_}
+use Prim.Native.Nat.{ℕ, suc, _+_, _≤_, _<_}
 use native.Mathlib.Omega.{arith}
 use lib.ListN.{set}
 use Rattle.definitions.specs.General.{loop}
@@ -12,11 +12,10 @@ use Rattle.definitions.specs.World.{count, next, fifo-length, causal-length, fi
 use Rattle.definitions.specs.Machine.{with-tables, merge, causal-one, causal-all, ready, appended, raised-next, send-oks, fifo-one, cascade}
 use Rattle.world.specs.Layout.{Changes, put-same, put-at, set-encode, reads-cell}
 use Rattle.logs.specs.Pushed.{pushed}
-use Rattle.bounds.specs.Bounds.{Bounds, bounds-state}
-use Rattle.bounds.specs.Run.{Run, run-end, run-stop}
+use Rattle.bounds.specs.Bounds.{Bounds}
+use Rattle.bounds.specs.Run.{Run}
 use Rattle.causal.specs.Causal.{causal-bounds, causal-stands}
 use Rattle.sends.specs.Sends.{oks-keep, bounds-oks}
-use Rattle.ready.specs.Ready.{messages, lowest}
 
 -- ---- the parts of a FIFO delivery keep the bounds
 -- a message appended to the FIFO log
@@ -109,6 +108,9 @@ module _ (p : ℕ) (s : State) (m : ℕ) (h : Bounds s) (hp : p < 16) (hm : m < 
       longer-delivered
 
 -- ---- the loop: n messages, and k turns left
+abbrev pub messages : State → ℕ
+messages t = t count
+
 pub record Kept (p n k : ℕ) (t : State) : Type 0 where
   pub bounds : Bounds t
   pub counted : t count ≡ n
@@ -127,31 +129,6 @@ kept-more p n hp k t m l h =
 
 abbrev pub Cascading : ℕ → ℕ → State → List ℕ → ℕ → Type 0
 Cascading p n s w left = Run messages (λ t. ready t p) (λ t. fifo-one t p) (Kept p n) (cascade s p) w left
-
-pub cascading-start : (p : ℕ) (w : List ℕ) {n k : ℕ} → p < 16 → Bounds (view w) → n ≡ view w count
-    → k ≡ view w (fifo-length p) → (s : State) → w ≡ encode s → Cascading p n s w (n - k)
-unfolding cascade
-cascading-start p w {n} {k} hp h en ek s e =
-    let n1 = en ∙ reads-cell w count tt s e in
-    let k1 = ek ∙ reads-cell w (fifo-length p) hp s e in
-    let b = bounds-state w s e h in
-    record {
-      state = s;
-      words = e;
-      kept = record { bounds = b; counted = sym n1; room = omega (arith, n1, k1, b .fifo-lengths p hp) };
-      rest = ap₂ (λ (x y : ℕ). loop messages (λ t. ready t p) (λ t. fifo-one t p) (x - y) s) (sym n1)
-          (sym k1);
-    }
-
-pub cascading-stop : (p : ℕ) (s : State) {w : List ℕ} {n left i : ℕ} → (t : Cascading p n s w left) → n ≤ i
-    → i ≡ lowest p (t .state) → w ≡ encode (cascade s p)
-cascading-stop p s {i = i} t h e =
-    let k : t .state count ≤ i = omega (arith, t .kept .counted) in
-    run-stop messages (λ t. ready t p) (λ t. fifo-one t p) t k e
-
-pub cascading-end : (p : ℕ) (s : State) {w : List ℕ} {n left : ℕ} → left ≡ 0 → Cascading p n s w left
-    → w ≡ encode (cascade s p)
-cascading-end p s z t = run-end messages (λ t. ready t p) (λ t. fifo-one t p) (rw z at t)
 
 -- ---- the stores of a FIFO delivery
 pub raised-law : (w : List ℕ) (p q : ℕ) {x : ℕ} → p < 16 → q < 16 → x ≡ view w (next p q)

@@ -1,152 +1,167 @@
--- The turns of the cascade: the message that each delivers, known or looked for; where all ready messages have one sender
--- these alone are looked at, and only after a turn that owed an OK. Assumes nothing.
-use mathlib.Core.Path.{_≡_, refl, sym, ap, _∙_}
+-- One FIFO delivery with the index: what is ready after it, and where an OK was sent. Assumes nothing.
+use mathlib.Core.Path.{_≡_, refl, sym, ap, ap₂, _∙_, subst}
 use mathlib.Core.Bool.{Bool, true, false, not}
-use mathlib.Core.List.{List}
-use mathlib.Core.Logic.{_⊎_, inl, inr}
-use Prim.Native.Nat.{ℕ, _-_, _≤_, _<_}
+use mathlib.Core.Logic.{_≢_, _⊎_, inl, inr}
+use Prim.Native.Nat.{ℕ, zero, suc, _+_, _<_}
 use native.Mathlib.Omega.{arith}
-use borrow.Author.Tests.{not-true, not-false}
-use Rattle.definitions.specs.General.{pick, some, first-from, chosen}
-use Rattle.definitions.specs.World.{count, fifo-length, sender, State, encode, view}
-use Rattle.definitions.specs.Machine.{ready, appended, causal-all, raised-next, due, fifo-one, cascade}
-use Rattle.base.specs.Tests.{bool-cases, clash, either, pick-yes, pick-no}
-use Rattle.base.specs.Search.{some-i, first-law}
-use Rattle.world.specs.Layout.{Reads, Changes, reads-cell}
-use Rattle.quiescence.specs.Quiescent.{Quiescent, the-count, a-sender, fifo-one-fixed}
-use Rattle.quiescence.specs.Turn.{OneSenderIf, NoneDue, before-oks, quiescent-lowest, turn-sender, turn-quiescent}
-use Rattle.logs.specs.Pushed.{pushed}
-use Rattle.bounds.specs.Bounds.{Bounds, bounds-words}
-use Rattle.bounds.specs.Run.{run-more}
-use Rattle.ready.specs.Ready.{messages, lowest, looked, looked-lowest, KnownIf, known-state}
-use Rattle.cascade.specs.Cascade.{Cascading, kept-more, cascading-stop}
+use native.Mathlib.Decide.{ℕ-discrete}
+use lib.Dec.{ltb, eqb}
+use borrow.Author.Tests.{ne-eqb, lt-ltb}
+use Rattle.definitions.specs.General.{pick, bit, every}
+use Rattle.base.specs.Tests.{both, both-l, both-r, both-i, bool-cases, clash}
+use Rattle.sets.specs.Lowest.{Has}
+use Rattle.index.specs.Index.{is-from, Logs, frame}
+use Rattle.sends.specs.Sends.{oks-keep as keep-oks}
+use Rattle.index.specs.Changes.{fifo-here}
+use Rattle.sends.specs.Oks.{oks-due, oks-ready}
+use Rattle.definitions.specs.World.{size, count, group, next, held, fifo-length, sender, number, flight, State, put, outside-fifo}
+use Rattle.world.specs.Layout.{put-same, put-other}
+use Rattle.world.specs.Kept.{causal-all-keeps, oks-keep}
+use Rattle.definitions.specs.Machine.{with-tables, addressees, in-turn, marked, ready, merge, causal-one, causal-all, appended, raised-next, due, send-ok, send-oks, fifo-one}
 
--- whether p owes an OK after the delivery of m: one that the turn sends
-abbrev pub owes-after : State → ℕ → ℕ → Bool
-owes-after s p m = some (before-oks s p m count) (due (before-oks s p m) p (s (sender m)))
+-- the state before the OKs
+abbrev pub before : State → ℕ → ℕ → State
+before s p m = raised-next (causal-all (appended s p m) p) p (s (sender m))
 
-pub owes-law : (w u1 u2 u3 : List ℕ) (p m : ℕ) {q : ℕ} {r : Bool} → m < 64 → q ≡ view w (sender m)
-    → Changes w u1 (λ s. pushed s p false m) → Changes u1 u2 (λ s. causal-all s p)
-    → Changes u2 u3 (λ s. raised-next s p q) → Reads u3 r (λ s. some (s count) (due s p q))
-    → Reads w r (λ s. owes-after s p m)
-unfolding appended
-owes-law w u1 u2 u3 p m {q} hm eq c1 c2 c3 c4 s e =
-    let t : State = causal-all (appended s p m) p in
-    c4 (raised-next t p q) (c3 t (c2 (appended s p m) (c1 s e)))
-    ∙ ap (λ (k : ℕ). some (raised-next t p k count) (due (raised-next t p k) p k))
-    (eq ∙ reads-cell w (sender m) hm s e)
+-- ---- what a turn leaves
+module _ (s : State) (p m : ℕ) where
+  pub turn-count : fifo-one s p m count ≡ s count
+  unfolding fifo-one raised-next appended causal-one merge with-tables put
+  turn-count =
+      oks-keep (λ t. t count) p (λ t x v. refl) (before s p m) (s (sender m)) (before s p m count)
+      ∙ causal-all-keeps (λ t. t count) p (λ t i. refl) (appended s p m)
 
-none-due : (s : State) (p m : ℕ) → owes-after s p m ≡ false → NoneDue (before-oks s p m) p (s (sender m))
-none-due s p m f x k = go (bool-cases (due (before-oks s p m) p (s (sender m)) x))
+  pub turn-sender : (x : ℕ) → fifo-one s p m (sender x) ≡ s (sender x)
+  unfolding fifo-one raised-next appended causal-one merge with-tables put
+  turn-sender x =
+      oks-keep (λ t. t (sender x)) p (λ t x v. refl) (before s p m) (s (sender m)) (before s p m count)
+      ∙ causal-all-keeps (λ t. t (sender x)) p (λ t i. refl) (appended s p m)
+
+  pub turn-longer : fifo-one s p m (fifo-length p) ≡ s (fifo-length p) + 1
+  unfolding fifo-one raised-next appended causal-one merge with-tables put
+  turn-longer =
+      oks-keep (λ t. t (fifo-length p)) p (λ t x v. refl) (before s p m) (s (sender m)) (before s p m count)
+      ∙ causal-all-keeps (λ t. t (fifo-length p)) p (λ t i. refl) (appended s p m)
+      ∙ put-same s (fifo-length p) (fifo-length p) (s (fifo-length p) + 1) refl
+
+  before-count : before s p m count ≡ s count
+  unfolding raised-next appended causal-one merge with-tables put
+  before-count = causal-all-keeps (λ t. t count) p (λ t i. refl) (appended s p m)
+
+  before-sender : (x : ℕ) → before s p m (sender x) ≡ s (sender x)
+  unfolding raised-next appended causal-one merge with-tables put
+  before-sender x = causal-all-keeps (λ t. t (sender x)) p (λ t i. refl) (appended s p m)
+
+  before-flight : (x : ℕ) → before s p m (flight x 2 p) ≡ s (flight x 2 p)
+  unfolding raised-next appended causal-one merge with-tables put
+  before-flight x = causal-all-keeps (λ t. t (flight x 2 p)) p (λ t i. refl) (appended s p m)
+
+  pub before-from : (q x : ℕ) → is-from (frame (before s p m)) q x ≡ is-from (frame s) q x
+  before-from q x = ap₂ (λ (a b : ℕ). both (ltb x a) (eqb b q)) before-count (before-sender x)
+
+  -- a message of another sender is ready as before
+  appended-ready : (x : ℕ) → m ≢ x → ready (appended s p m) p x ≡ ready s p x
+  unfolding ready appended put
+  appended-ready x d =
+      ap (λ (b : Bool). both (both (both (eqb (s (held p x)) 1) b) (in-turn s p x)) (every (s size) (marked s p x)))
+      (fifo-here s p m x ∙ ap (λ (b : Bool). both (not b) (outside-fifo s p x)) (ne-eqb m x d))
+
+  causal-ready : (t : State) (x : ℕ) → ready (causal-all t p) p x ≡ ready t p x
+  unfolding ready causal-one merge with-tables put
+  causal-ready t x = causal-all-keeps (λ u. ready u p x) p (λ u i. refl) t
+
+  raised-ready : (t : State) (q x : ℕ) → q ≢ t (sender x) → ready (raised-next t p q) p x ≡ ready t p x
+  unfolding ready raised-next put
+  raised-ready t q x d =
+      ap (λ (v : ℕ). both (both (both (eqb (t (held p x)) 1) (outside-fifo t p x)) (eqb (t (number x (t (group p)))) v))
+      (every (t size) (marked t p x)))
+      (put-other t (next p q) (next p (t (sender x))) (t (next p q) + 1)
+      (λ e. d (let z : q ≡ t (sender x) = cc in z)))
+
+  causal-sender : (x : ℕ) → causal-all (appended s p m) p (sender x) ≡ s (sender x)
+  unfolding appended causal-one merge with-tables put
+  causal-sender x = causal-all-keeps (λ t. t (sender x)) p (λ t i. refl) (appended s p m)
+
+  pub turn-other : (x : ℕ) → s (sender m) ≢ s (sender x) → ready (fifo-one s p m) p x ≡ ready s p x
+  unfolding fifo-one
+  turn-other x d =
+      oks-ready p (s (sender m)) (before s p m count) (before s p m) x
+      ∙ raised-ready (causal-all (appended s p m) p) (s (sender m)) x (λ e. d (e ∙ causal-sender x))
+      ∙ causal-ready (appended s p m) x
+      ∙ appended-ready x (λ e. d (ap (λ (y : ℕ). s (sender y)) e))
+
+  -- of the same sender, as the OKs find it
+  pub turn-same : (x : ℕ) → ready (fifo-one s p m) p x ≡ ready (before s p m) p x
+  unfolding fifo-one
+  turn-same x = oks-ready p (s (sender m)) (before s p m count) (before s p m) x
+
+-- ---- where no OK is owed, none is sent
+oks-flight : (s : State) (p q x k : ℕ) → (x < k → due s p q x ≡ false) → send-oks s p q k (flight x 2 p) ≡ s (flight x 2 p)
+unfolding send-oks send-ok
+oks-flight s p q x zero h = refl
+oks-flight s p q x (suc k) h = go (ℕ-discrete k x) ∙ oks-flight s p q x k (λ l. h (omega arith))
   where
-    go : (due (before-oks s p m) p (s (sender m)) x ≡ true) ⊎ (due (before-oks s p m) p (s (sender m)) x ≡ false)
-        → due (before-oks s p m) p (s (sender m)) x ≡ false
-    go (inl d) = clash (some-i (before-oks s p m count) (due (before-oks s p m) p (s (sender m))) x k d) f
-    go (inr d) = d
+    t : State
+    t = send-oks s p q k
 
--- ---- the choice of the message to deliver
-abbrev pub choice : Bool → Bool → State → ℕ → ℕ → ℕ
-choice alone look s p i = pick look (first-from (s count) 0 (looked alone s p (s (sender i)))) i
+    pass : (b : Bool) → k ≢ x → pick b (put t (flight k 2 p) (addressees t k)) t (flight x 2 p) ≡ t (flight x 2 p)
+    pass true d = put-other t (flight k 2 p) (flight x 2 p) (addressees t k) (λ e. d (let z : k ≡ x = cc in z))
+    pass false d = refl
 
-pub choice-known : (w : List ℕ) (p i : ℕ) (a l : Bool) → not l ≡ true → Reads w i (λ s. choice a l s p i)
-choice-known w p i a l d s e =
-    sym (pick-no (first-from (s count) 0 (looked a s p (s (sender i)))) i (not-true l d))
+    go : Dec (k ≡ x) → pick (due t p q k) (put t (flight k 2 p) (addressees t k)) t (flight x 2 p) ≡ t (flight x 2 p)
+    go (yes e) =
+        ap (λ (b : Bool). pick b (put t (flight k 2 p) (addressees t k)) t (flight x 2 p))
+        (oks-due p q k s q k ∙ ap (due s p q) e ∙ h (omega arith))
+    go (no d) = pass (due t p q k) d
 
-pub choice-looked : (w : List ℕ) (p i : ℕ) {q r : ℕ} (a l : Bool) → i < 64 → not l ≡ false → q ≡ view w (sender i)
-    → Reads w r (λ s. first-from (s count) 0 (looked a s p q)) → Reads w r (λ s. choice a l s p i)
-choice-looked w p i a l hi d eq er s e =
-    er s e ∙ ap (λ (x : ℕ). first-from (s count) 0 (looked a s p x)) (eq ∙ reads-cell w (sender i) hi s e)
-    ∙ sym (pick-yes (first-from (s count) 0 (looked a s p (s (sender i)))) i (not-false l d))
+due-from : (t : State) (p q x : ℕ) → x < t count → due t p q x ≡ true → is-from (frame t) q x ≡ true
+unfolding due
+due-from t p q x k d =
+    both-i (ltb x (t count)) (eqb (t (sender x)) q) (lt-ltb x (t count) k)
+    (both-r (eqb (t (held p x)) 1) (eqb (t (sender x)) q)
+    (both-l (both (eqb (t (held p x)) 1) (eqb (t (sender x)) q)) (in-turn t p x) d))
 
--- ---- the loop: all that are ready have the sender of i, if so; and i is the lowest, if it is not looked for
-pub record Going (alone : Bool) (p n : ℕ) (s : State) (w : List ℕ) (left i : ℕ) (look : Bool) : Type 0 where
-  pub run : Cascading p n s w left
-  pub same : OneSenderIf alone (run .state) p i
-  pub first : look ≡ false → i ≡ lowest p (run .state)
+pub turn-unsent : (s : State) (p m set : ℕ)
+    → Has set (λ x. both (is-from (frame (before s p m)) (s (sender m)) x) (due (before s p m) p (s (sender m)) x))
+    → (x : ℕ) → x < 64 → bit set x ≡ false → fifo-one s p m (flight x 2 p) ≡ s (flight x 2 p)
+unfolding fifo-one
+turn-unsent s p m set h x l e =
+    oks-flight t p q x (t count) (λ k. idle k (bool-cases (due t p q x))) ∙ before-flight s p m x
+  where
+    t : State
+    t = before s p m
 
-pub going-start : (b : Bool) (p n left m : ℕ) (s : State) {w : List ℕ} → Bounds (view w) → p < 16 → m < 64
-    → Cascading p n s w left → KnownIf b (view w) p m → Going b p n s w left m (not b)
-going-start true p n left m s {w} h hp hm c k =
-    let z = known-state true w (c .state) p m (c .words) h hp hm k in
-    record { run = c; same = z .same; first = λ _. z .first }
-going-start false p n left m s h hp hm c k = record { run = c; same = tt; first = λ e. clash refl e }
+    q : ℕ
+    q = s (sender m)
 
--- the choice is the lowest
-module _ (b : Bool) (p n : ℕ) (s : State) {w : List ℕ} {left i : ℕ} (l : Bool) (g : Going b p n s w left i l) where
-  abbrev t : State
-  t = g .run .state
+    idle : x < t count → (due t p q x ≡ true) ⊎ (due t p q x ≡ false) → due t p q x ≡ false
+    idle k (inr d) = d
+    idle k (inl d) = clash (h x l ∙ ap₂ both (due-from t p q x k d) d) e
 
-  pub going-lowest : {x : ℕ} → Reads w x (λ s. choice b l s p i) → x ≡ lowest p t
-  going-lowest er = er t (g .run .words) ∙ go l refl
-    where
-      go : (y : Bool) → l ≡ y → choice b y t p i ≡ lowest p t
-      go true e = looked-lowest b t p (t (sender i)) (same-if b (g .same))
-        where
-          same-if : (y : Bool) → OneSenderIf y t p i
-              → y ≡ true → (x : ℕ) → x < t count → ready t p x ≡ true → t (sender i) ≡ t (sender x)
-          same-if true h z = h
-          same-if false h z = clash z refl
-      go false e = g .first e
+-- ---- what the OKs tell, of the turn
+module _ (s : State) (p m : ℕ) (hp : p < 16) where
+  abbrev at : ℕ → State
+  at q = raised-next (causal-all (appended s p m) p) p q
 
-  -- after the delivery of the choice
-  module _ {x : ℕ} {u : List ℕ} {o : Bool} (hp : p < 16) (left-one : 0 < left) (low : x < n)
-      (er : Reads w x (λ s. choice b l s p i)) (c : Changes w u (λ t. fifo-one t p x))
-      (eo : Reads w o (λ s. owes-after s p x)) where
-    e : x ≡ lowest p t
-    e = going-lowest er
+  abbrev pub Told : ℕ → ℕ → ℕ → Type 0
+  Told q r t =
+      Has r (λ k. both (is-from (frame (at q)) q k) (ready (at q) p k))
+      × Has t (λ k. both (is-from (frame (at q)) q k) (due (at q) p q k))
 
-    k : x < t count
-    k = omega (arith, g .run .kept .counted)
+  pub turn-told : {q : ℕ} (r t : ℕ) → q ≡ s (sender m) → Told q r t
+      → Has r (λ k. both (is-from (frame s) (s (sender m)) k) (ready (fifo-one s p m) p k))
+      × ((k : ℕ) → k < 64 → bit t k ≡ false → fifo-one s p m (flight k 2 p) ≡ s (flight k 2 p))
+  turn-told {q} r t e h =
+      let z = subst (λ (y : ℕ). Told y r t) e h in (
+        λ k l. z .0 k l ∙ ap₂ both (before-from s p m (s (sender m)) k) (sym (turn-same s p m k)),
+        turn-unsent s p m t (z .1),
+      )
 
-    -- the choice has the sender too
-    chosen-same : (y : Bool) → OneSenderIf y t p i → OneSenderIf y t p x
-    unfolding chosen
-    chosen-same true h = λ z j r.
-        let hit : ready t p x ≡ true = ap (ready t p) e ∙ first-law (t count) 0 (ready t p) .hit (omega (arith, k, e)) in
-        sym (h x k hit) ∙ h z j r
-    chosen-same false h = tt
+-- ---- OKs keep the logs
+pub oks-logs : (p q k : ℕ) (s : State) → Logs s p → Logs (send-oks s p q k) p
+unfolding put
+oks-logs p q k s h = keep-oks p q (λ t. Logs t p) (λ t m z. z) k s h
 
-    after-same : (y : Bool) → OneSenderIf y t p x → OneSenderIf y (fifo-one t p x) p x
-    after-same true h = λ z j r.
-        let m = fifo-one-fixed p t x count the-count in
-        fifo-one-fixed p t x (sender x) (a-sender x) ∙ turn-sender p t x h z (omega arith) r
-        ∙ sym (fifo-one-fixed p t x (sender z) (a-sender z))
-    after-same false h = tt
-
-    next : Cascading p n s u (left - 1)
-    next = run-more messages (λ t. ready t p) (λ t. fifo-one t p) (kept-more p n hp) (g .run) left-one k e c
-
-    pub going-more : either o (not b) ≡ true → Going b p n s u (left - 1) x (either o (not b))
-    unfolding next run-more
-    going-more d = record {
-      run = next;
-      same = after-same b (chosen-same b (g .same));
-      first = λ f. clash d f;
-    }
-
-    -- one sender, and no OK owed: nothing is ready
-    pub going-stops : either o (not b) ≡ false → u ≡ encode (cascade s p)
-    unfolding next run-more chosen
-    going-stops d =
-        cascading-stop p s next (omega (arith, next .kept .counted))
-        (sym (quiescent-lowest (fifo-one t p x) p (quiet b o d (eo t (g .run .words)) (chosen-same b (g .same)))
-        ∙ next .kept .counted))
-      where
-        quiet : (y z : Bool) → either z (not y) ≡ false → z ≡ owes-after t p x → OneSenderIf y t p x
-            → Quiescent (fifo-one t p x) p
-        quiet true false f ez h = turn-quiescent p t x h (none-due t p x (sym ez))
-        quiet true true f ez h = clash refl f
-        quiet false true f ez h = clash refl f
-        quiet false false f ez h = clash refl f
-
--- the words before a turn
-pub going-room : (b : Bool) (p n : ℕ) (s : State) {w : List ℕ} {left i : ℕ} {l : Bool} → p < 16 → 0 < left
-    → (g : Going b p n s w left i l) → Bounds (view w) × (view w (fifo-length p) < view w count) × (n ≤ 64)
-going-room b p n s {w} hp h g =
-    let r = g .run in
-    let a = reads-cell w (fifo-length p) hp (r .state) (r .words) in
-    let z = reads-cell w count tt (r .state) (r .words) in (
-      bounds-words w (r .state) (r .words) (r .kept .bounds),
-      omega (arith, r .kept .room, r .kept .counted),
-      omega (arith, r .kept .counted, r .kept .bounds .counts),
-    )
+pub next-logs : (p q : ℕ) (s : State) → Logs s p → Logs (raised-next s p q) p
+unfolding raised-next put
+next-logs p q s h = h

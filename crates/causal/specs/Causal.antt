@@ -1,17 +1,17 @@
 -- The causal deliveries at a process, turn by turn: the bounds that each keeps, and the loop of the code
 -- beside the definition's. The causal log has room for what is left, since the loop counts down how much
 -- longer the FIFO log is. Assumes nothing.
-use mathlib.Core.Path.{_≡_, refl, sym, ap, ap₂, _∙_}
+use mathlib.Core.Path.{_≡_, refl, ap, _∙_}
 use mathlib.Core.List.{List}
 use Prim.Native.Nat.{ℕ, suc, _+_, _-_, _≤_, _<_}
 use native.Mathlib.Omega.{arith}
-use Rattle.definitions.specs.General.{chosen, loop, first-from}
-use Rattle.definitions.specs.World.{Cell, fifo-length, causal-length, State, put, encode, view}
+use Rattle.definitions.specs.General.{chosen, loop}
+use Rattle.definitions.specs.World.{Cell, fifo-length, causal-length, State, put}
 use Rattle.definitions.specs.Machine.{with-tables, merge, deliverable-at, causal-one, causal-all}
 use Rattle.base.specs.Loop.{loop-keeps}
-use Rattle.world.specs.Layout.{Changes, put-same, put-at, reads-cell}
-use Rattle.bounds.specs.Bounds.{Bounds, bounds-state}
-use Rattle.bounds.specs.Run.{Run, loop-leaves, run-more, run-end, run-stop}
+use Rattle.world.specs.Layout.{put-same, put-at}
+use Rattle.bounds.specs.Bounds.{Bounds}
+use Rattle.bounds.specs.Run.{Run, loop-leaves}
 
 -- the length of the FIFO log of p: how many places a search of it looks at
 abbrev pub places : ℕ → State → ℕ
@@ -20,12 +20,6 @@ places p t = t (fifo-length p)
 -- the earliest deliverable item of p's FIFO log, or the log's length
 abbrev pub earliest : ℕ → State → ℕ
 earliest p s = chosen (places p) (λ t. deliverable-at t p) (λ t. causal-one t p) s
-
-pub earliest-is : (p : ℕ) (s : State) {i n : ℕ} → n ≡ s (fifo-length p)
-    → i ≡ first-from n 0 (deliverable-at s p)
-    → i ≡ earliest p s
-unfolding chosen
-earliest-is p s en e = e ∙ ap (λ (k : ℕ). first-from k 0 (deliverable-at s p)) en
 
 -- ---- one turn: the causal log is one longer, and the bounds are kept
 causal-length-is : (s : State) (p i x : ℕ)
@@ -90,35 +84,3 @@ causal-stands p s c one =
 abbrev pub Delivering : ℕ → ℕ → State → List ℕ → ℕ → Type 0
 Delivering p n s w left =
     Run (places p) (λ t. deliverable-at t p) (λ t. causal-one t p) (Kept p n) (causal-all s p) w left
-
-pub delivering-start : (p : ℕ) (w : List ℕ) {n k : ℕ} → p < 16 → Bounds (view w) → n ≡ view w (fifo-length p)
-    → k ≡ view w (causal-length p) → (s : State) → w ≡ encode s → Delivering p n s w (n - k)
-unfolding causal-all
-delivering-start p w {n} {k} hp h en ek s e =
-    let n1 = en ∙ reads-cell w (fifo-length p) hp s e in
-    let k1 = ek ∙ reads-cell w (causal-length p) hp s e in
-    let b = bounds-state w s e h in
-    record {
-      state = s;
-      words = e;
-      kept = record { bounds = b; log = sym n1; room = omega (arith, n1, k1, b .causal-lengths p hp) };
-      rest = ap₂ (λ (x y : ℕ). loop (places p) (λ t. deliverable-at t p) (λ t. causal-one t p) (x - y) s)
-          (sym n1) (sym k1);
-    }
-
-pub delivering-more : (p : ℕ) (s : State) {w u : List ℕ} {n left i : ℕ} → (t : Delivering p n s w left)
-    → 0 < left
-    → i < n → i ≡ earliest p (t .state) → Changes w u (λ x. causal-one x p i) → Delivering p n s u (left - 1)
-delivering-more p s {n = n} {i = i} t h l e c =
-    let k : i < t .state (fifo-length p) = omega (arith, t .kept .log) in
-    run-more (places p) (λ t. deliverable-at t p) (λ t. causal-one t p) (kept-more p n) t h k e c
-
-pub delivering-stop : (p : ℕ) (s : State) {w : List ℕ} {n left i : ℕ} → (t : Delivering p n s w left) → n ≤ i
-    → i ≡ earliest p (t .state) → w ≡ encode (causal-all s p)
-delivering-stop p s {i = i} t h e =
-    let k : t .state (fifo-length p) ≤ i = omega (arith, t .kept .log) in
-    run-stop (places p) (λ t. deliverable-at t p) (λ t. causal-one t p) t k e
-
-pub delivering-end : (p : ℕ) (s : State) {w : List ℕ} {n left : ℕ} → left ≡ 0 → Delivering p n s w left
-    → w ≡ encode (causal-all s p)
-delivering-end p s z t = run-end (places p) (λ t. deliverable-at t p) (λ t. causal-one t p) (rw z at t)

@@ -1,20 +1,19 @@
 -- The test "deliverable-at", read off words. Assumes nothing.
-use mathlib.Core.Path.{_≡_, refl, sym, ap, ap₂, _∙_}
-use mathlib.Core.Bool.{Bool, true, false, not}
+use mathlib.Core.Path.{_≡_, ap, ap₂, _∙_}
+use mathlib.Core.Bool.{not}
 use mathlib.Core.List.{List}
 use Prim.Native.Nat.{ℕ, _+_, _-_, _*_, _≤_, _<_}
 use native.Mathlib.Omega.{arith}
 use lib.Dec.{leb, eqb}
 use lib.ListN.{getD, take, drop}
 use lib.Seq.{getD-take, getD-drop}
-use Rattle.definitions.specs.General.{bit, absent, every}
-use Rattle.definitions.specs.World.{outside-causal, size, group, delivered, causal-length, fifo, causal, sender, stamp, State, encode, view}
+use Rattle.definitions.specs.General.{absent, every}
+use Rattle.definitions.specs.World.{size, group, delivered, causal-length, fifo, causal, sender, stamp, State, encode, view}
 use Rattle.definitions.specs.Machine.{fits, deliverable, deliverable-at}
 use Rattle.base.specs.Search.{every-cong}
 use Rattle.base.specs.Tests.{both, either}
-use Rattle.world.specs.Layout.{get-encode, Reads}
-use Rattle.sets.specs.Members.{Members}
-use Rattle.bounds.specs.Bounds.{Bounds, bounds-state}
+use Rattle.world.specs.Layout.{get-encode}
+use Rattle.bounds.specs.Bounds.{Bounds}
 use Rattle.counters.specs.Counters.{rows-at-most}
 
 -- ---- what the tests read of words
@@ -46,12 +45,6 @@ module _ (s : State) (h : Bounds s) (p : ℕ) (hp : p < 16) where
       ∙ every-cong (s size) (fits (view (encode s)) p m) (fits s p m)
       (λ q l. fits-words m lm q (omega (arith, h .sizes))))
 
-pub deliverable-law : (w : List ℕ) (p i : ℕ) {r : Bool} → Bounds (view w) → p < 16 → i < 64
-    → r ≡ deliverable-at (view w) p i → Reads w r (λ s. deliverable-at s p i)
-deliverable-law w p i h hp hi q s e =
-    q ∙ ap (λ (x : List ℕ). deliverable-at (view x) p i) e
-    ∙ deliverable-words s (bounds-state w s e h) p hp i hi
-
 -- ---- the counters of a message for a group, and del of a process, as parts of the words
 -- The 16 words from b on, as the code lends them.
 abbrev row : List ℕ → ℕ → List ℕ
@@ -72,27 +65,3 @@ fits-rows w p g m e few =
 
     place : (q : ℕ) → 6867 + m * 187 + 2 + g * 16 + q ≡ 6867 + m * 187 + 2 + (g * 16 + q)
     place q = omega arith
-
--- ---- the causal log of p as a set of messages
-abbrev pub Listed : State → ℕ → ℕ → Type 0
-Listed s p set = Members set (s (causal-length p)) (λ j. s (causal p j))
-
--- whether a member of the FIFO log is outside it
-module _ (s : State) (p i m set : ℕ) (em : m ≡ s (fifo p i)) (hm : m < 64) (h : Listed s p set) where
-  outside-is : {b : Bool} → bit set m ≡ b → outside-causal s p (s (fifo p i)) ≡ not b
-  outside-is {b} e =
-      ap (outside-causal s p) (sym em) ∙ sym (twice (outside-causal s p m)) ∙ ap not (sym (h m hm) ∙ e)
-    where
-      twice : (b : Bool) → not (not b) ≡ b
-      twice true = refl
-      twice false = refl
-
-  pub deliver-yes : {r : Bool} → bit set m ≡ false → r ≡ every (s size) (fits s p m) → r ≡ deliverable-at s p i
-  unfolding deliverable-at deliverable
-  deliver-yes b e =
-      e ∙ ap (λ (y : ℕ). every (s size) (fits s p y)) em
-      ∙ sym (ap (λ (x : Bool). both x (every (s size) (fits s p (s (fifo p i))))) (outside-is b))
-
-  pub deliver-no : bit set m ≡ true → false ≡ deliverable-at s p i
-  unfolding deliverable-at deliverable
-  deliver-no b = sym (ap (λ (x : Bool). both x (every (s size) (fits s p (s (fifo p i))))) (outside-is b))

@@ -2,13 +2,13 @@
 use mathlib.Core.Path.{_≡_, refl, sym, ap, _∙_}
 use mathlib.Core.Bool.{Bool, true, false, not, _&&_, _||_}
 use mathlib.Core.List.{List}
-use Prim.Native.Nat.{ℕ, _+_, _≤_, _<_}
+use Prim.Native.Nat.{ℕ, _≤_}
 use lib.Dec.{ltb, eqb}
 use borrow.Author.Tests.{eq-eqb, ne-eqb, lt-ltb, le-ltb}
 use lib.ListN.{length}
 use Rattle.definitions.specs.General.{pick, every, byte, low-first}
 use Rattle.definitions.specs.Steps.{Step, multicasts, arrives, loses, trusts, crashes, malformed, zeros-from, read}
-use Rattle.base.specs.Search.{every-intro, every-more, every-fails}
+use Rattle.base.specs.Search.{every-intro}
 use Rattle.given.specs.declared.Given.{Given}
 use Rattle.given.specs.declared.Given.the-variants as given
 
@@ -30,21 +30,12 @@ letter-good bytes = ltb (byte bytes 1) 3 && zeros-from bytes 5
 abbrev pub passes : List ℕ → ℕ → ℕ → Bool
 passes bytes i j = ltb j i || eqb (byte bytes j) 0
 
-pub zeros-start : (bytes : List ℕ) (i : ℕ) → every i (passes bytes i) ≡ true
+pub zeros-start : (bytes : List ℕ) (i : ℕ) → true ≡ every i (passes bytes i)
 zeros-start bytes i =
-    every-intro i (passes bytes i) (λ j h. ap (λ (b : Bool). b || eqb (byte bytes j) 0) (lt-ltb j i h))
+    sym (every-intro i (passes bytes i) (λ j h. ap (λ (b : Bool). b || eqb (byte bytes j) 0) (lt-ltb j i h)))
 
-pub zeros-more : (bytes : List ℕ) (i j : ℕ) → i ≤ j → byte bytes j ≡ 0 → every j (passes bytes i) ≡ true
-    → every (j + 1) (passes bytes i) ≡ true
-zeros-more bytes i j l e h =
-    every-more j (passes bytes i) h
-    (ap (λ (b : Bool). b || eqb (byte bytes j) 0) (le-ltb j i l) ∙ eq-eqb (byte bytes j) 0 e)
-
-pub zeros-fail : (bytes : List ℕ) (i j : ℕ) → i ≤ j → j < 8 → (byte bytes j ≡ 0 → ⊥)
-    → false ≡ zeros-from bytes i
-zeros-fail bytes i j l h n =
-    sym (every-fails 8 (passes bytes i) j h
-    (ap (λ (b : Bool). b || eqb (byte bytes j) 0) (le-ltb j i l) ∙ ne-eqb (byte bytes j) 0 n))
+pub zeros-next : (bytes : List ℕ) (i j : ℕ) → i ≤ j → eqb (byte bytes j) 0 ≡ passes bytes i j
+zeros-next bytes i j l = sym (ap (λ (b : Bool). b || eqb (byte bytes j) 0) (le-ltb j i l))
 
 -- ---- the bytes by their kind
 abbrev pub read-as : ℕ → List ℕ → Step

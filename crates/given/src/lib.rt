@@ -25,7 +25,7 @@ fn wide(x: u8) -> usize
 }
 
 // Byte i.
-fn byte(bytes: &[u8], i: usize) -> usize
+pub fn byte(bytes: &[u8], i: usize) -> usize
     requires { ⌜ i < length (now bytes) ⌝ }
     ensures { λ r. ⌜ (r ≡ getD (now (bytes .entry)) i 0) × (r < 256) ⌝ }
 {
@@ -40,23 +40,22 @@ fn low_first(bytes: &[u8], i: usize) -> u16
     (byte(bytes, i) + byte(bytes, i + 1) * 256) as u16
 }
 
-// Whether the bytes from i on are zero.
+// Whether the bytes from i on are zero: gathered, and tested once.
 fn zeros(bytes: &[u8], i: usize) -> bool
     requires { ⌜ (length (now bytes) ≡ 8) × (i ≤ 8) ⌝ }
     ensures { λ r. ⌜ r ≡ zeros-from (now (bytes .entry)) i ⌝ }
 {
+    let mut ok = true;
     let mut j: usize = i;
     while j < 8 {
-        if bytes[j] != 0 {
-            return false;
-        }
+        ok = ok & (bytes[j] == 0);
         j += 1;
     }
-    true
+    ok
 }
 
 // Whether the bytes of an arrival or a loss are well formed: the letter's kind is one, and the rest is zero.
-fn is_letter(bytes: &[u8]) -> bool
+pub fn is_letter(bytes: &[u8]) -> bool
     requires { ⌜ length (now bytes) ≡ 8 ⌝ }
     ensures { λ r. ⌜ r ≡ letter-good (now (bytes .entry)) ⌝ }
 {

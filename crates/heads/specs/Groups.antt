@@ -14,7 +14,7 @@ use Rattle.base.specs.Tests.{both, both-l, both-r, both-i, same}
 use Rattle.base.specs.Search.{every-true, every-intro, some-i, some-e, some-cong, every-none, every-next}
 use Rattle.base.specs.Bits.{bit-zero, bit-with}
 use Rattle.ranges.specs.Laws.{some-none, some-next, or-zero}
-use Rattle.ranges.specs.Sets.{bit-up, subset-e, subset-i}
+use Rattle.base.specs.Sets.{bit-up, subset-e, subset-i}
 
 -- What the loop has gathered of the first n processes.
 pub record GroupSet (s : State) (n set any : ℕ) : Type 0 where

@@ -10,7 +10,7 @@ use borrow.Author.Tests.{lt-ltb}
 use Rattle.definitions.specs.General.{every, only}
 use Rattle.definitions.specs.World.{State, sender, mask, view, is-process, is-message, has-group}
 use Rattle.definitions.specs.Sound.{word, fit, fine}
-use Rattle.ranges.specs.Sets.{subset-only}
+use Rattle.base.specs.Sets.{subset-only}
 use Rattle.heads.specs.Known.{Sized, Grouped}
 
 -- A message may have this sender, of n processes, and this mask, of these groups.

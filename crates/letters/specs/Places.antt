@@ -1,28 +1,22 @@
--- Where the search for the lowest letter may start: no letter that can move stands before the place. After an arrival
--- of the lowest letter it may go on where that one stood if only a mark was set, and else at the lowest message of
--- which the receiver has an OK in flight. Assumes nothing.
+-- Where the search for the lowest letter may start: no letter that can move stands before the place. Assumes nothing.
 use mathlib.Core.Path.{_≡_, refl, sym, ap, ap₂, _∙_, subst}
-use mathlib.Core.Bool.{Bool, true, false, not, _&&_}
-use mathlib.Core.Logic.{_≢_, _⊎_, inl, inr}
+use mathlib.Core.Bool.{Bool, true, false, _&&_}
+use mathlib.Core.Logic.{_⊎_, inl, inr}
 use Prim.Native.Nat.{ℕ, zero, suc, _+_, _-_, _≤_, _<_}
 use native.Mathlib.Omega.{arith}
 use native.Mathlib.Nat.{sub-zero}
-use native.Mathlib.Decide.{ℕ-discrete}
-use lib.Bits.{bitAnd}
 use lib.Dec.{ltb, eqb}
-use borrow.Author.Tests.{ltb-true, ltb-false, le-ltb, eqb-true, not-false}
-use Rattle.definitions.specs.General.{pick, first-from, bit, with, without, mask-of}
-use Rattle.definitions.specs.World.{Cell, size, count, up, marks, flight, State, put}
-use Rattle.definitions.specs.Machine.{leave, mark, arrival}
-use Rattle.definitions.specs.Steps.{is-up, in-flight}
+use borrow.Author.Tests.{ltb-true, ltb-false, le-ltb}
+use Rattle.definitions.specs.General.{first-from, bit, mask-of}
+use Rattle.definitions.specs.World.{Cell, size, count, up, flight, State}
+use Rattle.definitions.specs.Machine.{arrival}
+use Rattle.definitions.specs.Steps.{is-up}
 use Rattle.definitions.specs.Settle.{Choice, letter, nothing, moves, receiver, origin, kind, movable, letter-of, lowest}
-use Rattle.base.specs.Tests.{clash, bool-cases, both-l, both-r}
-use Rattle.base.specs.Search.{First, first-law, first-skip, first-end}
-use Rattle.base.specs.Bits.{mask-of-cong, bit-and, bit-zero, bit-mask-of}
-use Rattle.world.specs.Layout.{Within, put-other}
-use Rattle.world.specs.SoundLaws.{Sound, size-high, count-high}
-use Rattle.world.specs.StepLaws.{InFlight, lowest-moves}
-use Rattle.quiescence.specs.Quiescent.{MarkOnly, arrival-size, arrival-count, arrival-up, arrival-letter}
+use Rattle.base.specs.Search.{first-law, first-skip, first-end}
+use Rattle.base.specs.Bits.{mask-of-cong}
+use Rattle.world.specs.Layout.{Within}
+use Rattle.world.specs.SoundLaws.{Sound, size-high}
+use Rattle.quiescence.specs.Quiescent.{arrival-size, arrival-count, arrival-up}
 use Rattle.letters.specs.declared.Place.{Place}
 
 -- ---- before a place, by message, kind, origin
@@ -185,153 +179,27 @@ module _ (s : State) where
           ∙ no-receiver m k o
           (earlier (s size) (λ i. ltb (receiver s m k i) (s size)) q (f .first-origin) o l) r hr
 
--- ---- where the search goes on
--- p has an OK of message x in flight to a process of the mask
-abbrev pub sends-ok : State → ℕ → ℕ → ℕ → Bool
-sends-ok s live p x = not (eqb (bitAnd (s (flight x 2 p)) live) 0)
-
-unfoldable pub next-place : State → ℕ → Place → ℕ → Bool → Place
-next-place s live at p true = at
-next-place s live at p false = record {
-  message = first-from (at .message) 0 (sends-ok s live p);
-  kind = 0;
-  origin = 0;
-}
-
 -- ---- after the arrival of the lowest letter, in words t of the state that it leaves
-module _ (s t : State) (k m q p live : ℕ) (h : Sound s) (e : lowest s ≡ letter k m q p)
-    (ups : live ≡ mask-of (s size) (is-up s))
-    (same : (c : Cell) → Within c → t c ≡ arrival s k m q p c) where
-  abbrev place : Place
-  place = record { message = m; kind = k; origin = q }
-
-  abbrev u : State
-  u = arrival s k m q p
-
-  moving : InFlight s k m q p
-  moving = lowest-moves s k m q p e .letter
-
+module _ (s t : State) (k m q p : ℕ) (h : Sound s) (same : (c : Cell) → Within c → t c ≡ arrival s k m q p c) where
   pub sizes : t size ≡ s size
   sizes = same size tt ∙ arrival-size s k m q p
 
-  counts : t count ≡ s count
+  pub counts : t count ≡ s count
   counts = same count tt ∙ arrival-count s k m q p
 
   lives : (r : ℕ) → r < 16 → is-up t r ≡ is-up s r
   lives r l = ap (λ (x : ℕ). eqb x 1) (same (up r) l ∙ arrival-up s k m q p r)
 
   -- the up processes are the same
-  pub still-up : live ≡ mask-of (t size) (is-up t)
-  still-up =
+  pub still-up : (live : ℕ) → live ≡ mask-of (s size) (is-up s) → live ≡ mask-of (t size) (is-up t)
+  still-up live ups =
       ups ∙ ap (λ (n : ℕ). mask-of n (is-up s)) (sym sizes)
       ∙ mask-of-cong (t size) (is-up s) (is-up t)
       (λ r l. sym (lives r (omega (arith, sizes, size-high s h))))
 
   -- where the letters of x, j, o are the same, none moves that did not
-  unmoved : (x j o r : ℕ) → o < 16 → r < 16 → t (flight x j o) ≡ s (flight x j o) → moves s x j o r ≡ false
+  pub unmoved : (x j o r : ℕ) → o < 16 → r < 16 → t (flight x j o) ≡ s (flight x j o) → moves s x j o r ≡ false
       → moves t x j o r ≡ false
   unfolding moves
   unmoved x j o r ho hr f z =
       ap₂ _&&_ (ap₂ _&&_ (ap (λ (y : ℕ). bit y r) f) (lives o ho)) (lives r hr) ∙ z
-
-  -- no OK of p moves where none goes to an up process
-  no-ok : (x r : ℕ) → r < s size → sends-ok t live p x ≡ false → moves t x 2 p r ≡ false
-  unfolding moves
-  no-ok x r l z = go (bool-cases (moves-now))
-    where
-      moves-now : Bool
-      moves-now = in-flight t 2 x p r && is-up t p && is-up t r
-
-      zero-mask : bitAnd (t (flight x 2 p)) live ≡ 0
-      zero-mask = eqb-true (bitAnd (t (flight x 2 p)) live) 0 (not-false _ z)
-
-      go : (moves-now ≡ true) ⊎ (moves-now ≡ false) → moves-now ≡ false
-      go (inr f) = f
-      go (inl f) =
-          let a = both-l (in-flight t 2 x p r && is-up t p) (is-up t r) f in
-          let flies = both-l (in-flight t 2 x p r) (is-up t p) a in
-          let lives-on = both-r (in-flight t 2 x p r && is-up t p) (is-up t r) f in
-          let named : bit live r ≡ true =
-          ap (λ (y : ℕ). bit y r) ups ∙ bit-mask-of (s size) (is-up s) r l
-          ∙ sym (lives r (omega (arith, size-high s h))) ∙ lives-on in
-          clash (bit-and (t (flight x 2 p)) live r ∙ ap₂ _&&_ flies named)
-          (ap (λ (y : ℕ). bit y r) zero-mask ∙ bit-zero r)
-
-  -- a mark only
-  letters-of-mark : (x j o : ℕ) → Before x j o place → mark (leave s k m q p) k m q p (flight x j o) ≡ s (flight x j o)
-  unfolding leave mark put
-  letters-of-mark x j o b = choose (eqb k 2)
-    where
-      other : flight m k q ≢ flight x j o
-      other d =
-          let em : m ≡ x = cc in
-          let ek : k ≡ j = cc in
-          let eq : q ≡ o = cc in
-          elim b [
-            | inl l ↦ absurd (omega arith)
-            | inr y ↦ elim (y .1) [ inl l ↦ absurd (omega arith) | inr z ↦ let l = z .1 in absurd (omega arith) ]
-          ]
-
-      left : State
-      left = put s (flight m k q) (without (s (flight m k q)) p)
-
-      choose : (b : Bool) → pick b (put left (marks p m) (with (left (marks p m)) q)) left (flight x j o) ≡ s (flight x j o)
-      choose true = put-other s (flight m k q) (flight x j o) _ other
-      choose false = put-other s (flight m k q) (flight x j o) _ other
-
-  pub passed-on : (b : Bool) → MarkOnly b s k m q p → Passed t (next-place t live place p b)
-  unfolding next-place
-  passed-on true only = record {
-    messages = omega (arith, moving .message, counts);
-    low = omega (arith, moving .message, count-high s h);
-    kinds = moving .kind;
-    origins = omega (arith, moving .from, sizes);
-    none = λ x j o r b hj ho hr.
-        let so : o < s size = omega (arith, sizes) in
-        let sr : r < s size = omega (arith, sizes) in
-        let tx : x < 64 = before-low x j o b in
-        unmoved x j o r (omega (arith, size-high s h)) (omega (arith, size-high s h))
-        (same (flight x j o) (tx, hj, omega (arith, size-high s h))
-        ∙ ap (λ (y : State). y (flight x j o)) only ∙ letters-of-mark x j o b)
-        (lowest-before s k m q p e x j o r b hj so sr);
-  }
-    where
-      before-low : (x j o : ℕ) → Before x j o place → x < 64
-      before-low x j o (inl l) = omega (arith, moving .message, count-high s h)
-      before-low x j o (inr y) = let d = y .0 in omega (arith, moving .message, count-high s h)
-  passed-on false only = record {
-    messages = omega (arith, moving .message, counts, law .high);
-    low = omega (arith, moving .message, count-high s h, law .high);
-    kinds = omega arith;
-    origins = omega arith;
-    none = λ x j o r b hj ho hr. elim b [
-      | inl l ↦ earlier-message x j o r l hj (omega (arith, sizes)) (omega (arith, sizes))
-      | inr y ↦ elim (y .1) [ inl l ↦ absurd (omega arith) | inr z ↦ let l = z .1 in absurd (omega arith) ]
-    ];
-  }
-    where
-      first : ℕ
-      first = first-from m 0 (sends-ok t live p)
-
-      law : First m 0 (sends-ok t live p) first
-      law = first-law m 0 (sends-ok t live p)
-
-      earlier-message : (x j o r : ℕ) → x < first → j < 3 → o < s size → r < s size → moves t x j o r ≡ false
-      earlier-message x j o r l hj ho hr = go (ℕ-discrete j 2) (ℕ-discrete o p)
-        where
-          before : moves s x j o r ≡ false
-          before = lowest-before s k m q p e x j o r (inl (omega (arith, law .high))) hj ho hr
-
-          kept : (j ≢ 2) ⊎ (o ≢ p) → moves t x j o r ≡ false
-          kept d =
-              unmoved x j o r (omega (arith, size-high s h)) (omega (arith, size-high s h))
-              (same (flight x j o)
-              (omega (arith, law .high, moving .message, count-high s h), hj, omega (arith, size-high s h))
-              ∙ arrival-letter s k m q p x j o (λ z. omega (arith, law .high)) d)
-              before
-
-          go : Dec (j ≡ 2) → Dec (o ≡ p) → moves t x j o r ≡ false
-          go (yes ej) (yes eo) =
-              ap₂ (λ (i z : ℕ). moves t x i z r) ej eo ∙ no-ok x r hr (law .miss x (omega arith) l)
-          go (no d) z = kept (inl d)
-          go (yes ej) (no d) = kept (inr d)

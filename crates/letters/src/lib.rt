@@ -1,15 +1,15 @@
-// The search for the lowest letter between two up processes, by message, kind, from, to; and where it may go on after
-// that letter has arrived.
+// The search for the lowest letter between two up processes, by message, kind, from, to, from a place before which none
+// stands.
 ghost use mathlib.Core.Path.{_≡_};
 ghost use Prim.Native.Nat.{_≤_, _<_};
 ghost use lib.ListN.{length};
-ghost use Rattle.definitions.specs.General.{with, mask-of, first-from, pick};
+ghost use Rattle.definitions.specs.General.{with, mask-of, pick};
 ghost use Rattle.definitions.specs.World.{size, count, view};
 ghost use Rattle.definitions.specs.Steps.{is-up};
 ghost use Rattle.definitions.specs.Settle.{lowest};
 ghost use Rattle.letters.specs.Letters.{choice-of};
 ghost use Rattle.letters.specs.Search.{waiting};
-ghost use Rattle.letters.specs.Places.{Passed, sends-ok, next-place};
+ghost use Rattle.letters.specs.Places.{Passed};
 
 // A letter: its kind, its message, where it comes from and where it goes; or nothing.
 pub enum Letter {
@@ -89,35 +89,4 @@ pub fn lowest_letter(w: &[u16], up: u16, from: Place) -> Letter
         m += 1;
     }
     found
-}
-
-// The lowest message below m of which p has an OK in flight to an up process, or m.
-fn lowest_ok(w: &[u16], up: u16, p: usize, m: usize) -> usize
-    requires { ⌜ (length (now w) ≡ 20480) × (p < 16) × (m ≤ 64) ⌝ }
-    ensures { λ r. ⌜ r ≡ first-from m 0 (sends-ok (view (now (w .entry))) up p) ⌝ }
-{
-    let mut x: usize = 0;
-    while x < m {
-        if cells::letters(w, x, 2, p) & up != 0 {
-            return x;
-        }
-        x += 1;
-    }
-    m
-}
-
-// Where the search goes on after the arrival of a letter at p, the lowest one: where that letter stood, if it only set
-// a mark; else p may have sent letters of its message, and OKs.
-pub fn next_place(w: &[u16], up: u16, at: Place, p: usize, marked: bool) -> Place
-    requires { ⌜ (length (now w) ≡ 20480) × (p < 16) × (at .message ≤ 64) ⌝ }
-    ensures { λ r. ⌜ r ≡ next-place (view (now (w .entry))) up at p marked ⌝ }
-{
-    if marked {
-        return at;
-    }
-    Place {
-        message: lowest_ok(w, up, p, at.message),
-        kind: 0,
-        origin: 0,
-    }
 }

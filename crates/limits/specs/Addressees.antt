@@ -32,11 +32,6 @@ pub record Addressees (s : State) (t : List ℕ) : Type 0 where
   pub long : length t ≡ 64
   pub at : (m : ℕ) → m < 64 → getD t m 0 ≡ addressees-of s m
 
--- t has 1 for each message that has p among its addressees, else 0.
-pub record Deliverable (to : List ℕ) (p : ℕ) (t : List ℕ) : Type 0 where
-  pub long : length t ≡ 64
-  pub at : (m : ℕ) → m < 64 → getD t m 0 ≡ pick (bit (getD to m 0) p) 1 0
-
 -- a group that may be is below 8
 pub group-low : (s : State) → Placed s → (p : ℕ) → p < s size → s (group p) < 8
 unfolding fine fit

@@ -1,3 +1,4 @@
 pub mod Limits
+pub mod Senders
 pub mod Addressees
 pub mod Members

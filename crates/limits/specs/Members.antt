@@ -2,23 +2,22 @@
 use mathlib.Core.Path.{_≡_, refl, sym, ap, ap₂, _∙_, subst}
 use mathlib.Core.Bool.{Bool, true, false, _&&_, _||_}
 use mathlib.Core.List.{List}
-use Prim.Native.Nat.{ℕ, zero, suc, _+_, _*_, _^_, _≤_, _<_}
+use Prim.Native.Nat.{ℕ, _+_, _^_, _≤_, _<_}
 use native.Mathlib.Omega.{arith}
 use native.Mathlib.Decide.{ℕ-discrete}
-use native.Mathlib.Nat.{pow-succ'}
 use lib.Bits.{bitOr}
 use lib.Dec.{eqb}
 use lib.ListN.{length, getD, set}
-use lib.Pow.{pow-pos, pow-mono}
+use lib.Pow.{pow-mono}
 use lib.Seq.{getD-set-same, getD-set-other}
 use borrow.Author.Tests.{eq-eqb, ne-eqb, eqb-true}
-use Rattle.definitions.specs.General.{pick, some, bit, with, mask-of}
+use Rattle.definitions.specs.General.{some, bit, with, mask-of}
 use Rattle.definitions.specs.World.{State, group}
 use Rattle.base.specs.Tests.{both-l, both-r, both-i, same}
 use Rattle.base.specs.Search.{some-i, some-e}
 use Rattle.base.specs.Bits.{bit-zero, bit-or, bit-mask-of, mask-of-member}
 use Rattle.ranges.specs.Laws.{some-none, some-next}
-use Rattle.ranges.specs.Sets.{bit-ext}
+use Rattle.base.specs.Sets.{bit-ext, mask-of-low}
 use Rattle.limits.specs.Addressees.{group-bit, mask-more}
 
 -- p is of group g.
@@ -81,17 +80,6 @@ joined-same t to g r e h = record {
 }
 
 -- ---- the two together
-mask-of-low : (n : ℕ) (f : ℕ → Bool) → mask-of n f < 2 ^ n
-unfolding mask-of with
-mask-of-low zero f = pow-pos 0
-mask-of-low (suc n) f = go (f n) (bit (mask-of n f) n) (mask-of-low n f) (pow-succ' 2 n)
-  where
-    go : (a b : Bool) → mask-of n f < 2 ^ n → 2 ^ suc n ≡ 2 * 2 ^ n
-        → pick a (pick b (mask-of n f) (mask-of n f + 2 ^ n)) (mask-of n f) < 2 ^ suc n
-    go true true l e = omega arith
-    go true false l e = omega arith
-    go false b l e = omega arith
-
 pub joined-all : (s : State) (n to r : ℕ) (t : List ℕ) → n ≤ 16 → ((p : ℕ) → p < n → s (group p) < 8)
     → r < 2 ^ 16 → Members s n t → Joined t to 8 r → r ≡ mask-of n (group-bit s to)
 joined-all s n to r t few low hr m h =

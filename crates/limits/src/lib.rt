@@ -1,50 +1,57 @@
-// The tables that the soundness test builds once: the limits of what is counted, and the addressees of each
+// The tables that the soundness test builds once: the limits of what is counted, the addressees and the sender of each
 // message.
 ghost use mathlib.Core.Path.{_≡_};
-ghost use Prim.Native.Nat.{_<_};
+ghost use Prim.Native.Nat.{_+_, _≤_};
 ghost use lib.ListN.{length};
-ghost use Rattle.definitions.specs.General.{pick, bit};
 ghost use Rattle.definitions.specs.World.{view};
 ghost use Rattle.heads.specs.Known.{Sized, Placed};
-ghost use Rattle.limits.specs.Limits.{used-at, limit-at, Limits};
+ghost use Rattle.limits.specs.Limits.{Filled, Limits};
+ghost use Rattle.limits.specs.Senders.{Senders};
 ghost use Rattle.limits.specs.Members.{Members, Joined};
-ghost use Rattle.limits.specs.Addressees.{Addressees, Deliverable};
+ghost use Rattle.limits.specs.Addressees.{Addressees};
 
-// Whether the group and the process exist that place i counts for: 8 groups by 16 processes, then 8 groups
-// alone, then 16 processes alone.
-fn used(n: usize, groups: u16, i: usize) -> bool
-    requires { ⌜ i < 152 ⌝ }
-    ensures { λ r. ⌜ r ≡ used-at n groups i ⌝ }
+// Stores v in the n places from a on.
+fn fill(t: &mut [u16], a: usize, n: usize, v: u16)
+    requires { ⌜ a + n ≤ length (now t) ⌝ }
+    ensures { λ _. ⌜ Filled (now (t .entry)) a n v (now (t .exit)) ⌝ }
 {
-    if i < 128 {
-        return masks::test(groups, i / 16) & (i % 16 < n);
+    let mut i: usize = 0;
+    while i < n {
+        t[a + i] = v;
+        i += 1;
     }
-    if i < 136 {
-        return masks::test(groups, i - 128);
-    }
-    i - 136 < n
 }
 
-// The most that place i may count to.
-fn limit(n: usize, groups: u16, count: u16, i: usize) -> u16
-    requires { ⌜ i < 152 ⌝ }
-    ensures { λ r. ⌜ r ≡ limit-at n groups count i ⌝ }
-{
-    if used(n, groups, i) {
-        return count;
-    }
-    0
-}
-
-// The limits of every place.
-pub fn limits(n: usize, groups: u16, count: u16) -> [u16; 152]
+// The most that each place may hold: 8 groups by 16 processes, then 8 groups alone, then 16 processes alone, with the
+// count where they exist; then what a log of 64 places has, and as many places past it.
+pub fn limits(n: usize, groups: u16, count: u16) -> [u16; 280]
+    requires { ⌜ n ≤ 16 ⌝ }
     ensures { λ r. ⌜ Limits n groups count r ⌝ }
 {
-    let mut t: [u16; 152] = [0; 152];
-    let mut i: usize = 0;
-    while i < 152 {
-        t[i] = limit(n, groups, count, i);
-        i += 1;
+    let mut t: [u16; 280] = [0; 280];
+    fill(&mut t, 136, n, count);
+    fill(&mut t, 152, 64, 63);
+    let mut g: usize = 0;
+    while g < 8 {
+        if masks::test(groups, g) {
+            fill(&mut t, g * 16, n, count);
+            t[128 + g] = count;
+        }
+        g += 1;
+    }
+    t
+}
+
+// The sender of each message, 0 past the count.
+pub fn senders(w: &[u16], n: usize, count: usize) -> [u32; 64]
+    requires { ⌜ Sized (now w) n count ⌝ }
+    ensures { λ r. ⌜ Senders (view (now (w .entry))) count r ⌝ }
+{
+    let mut t: [u32; 64] = [0; 64];
+    let mut m: usize = 0;
+    while m < count {
+        t[m] = w[cells::MESSAGES + m * cells::MESSAGE] as u32;
+        m += 1;
     }
     t
 }
@@ -93,32 +100,6 @@ pub fn addressees(w: &[u16], n: usize, count: usize) -> [u16; 64]
     let mut m: usize = 0;
     while m < count {
         t[m] = addressed(&of, w[cells::MESSAGES + m * cells::MESSAGE + cells::MASK]);
-        m += 1;
-    }
-    t
-}
-
-// 1 where process p is among the addressees, else 0.
-fn flag(to: u16, p: usize) -> u16
-    requires { ⌜ p < 16 ⌝ }
-    ensures { λ r. ⌜ r ≡ pick (bit to p) 1 0 ⌝ }
-{
-    if masks::test(to, p) {
-        return 1;
-    }
-    0
-}
-
-// 1 for each message that has process p among its addressees, else 0.
-pub fn deliverable(addressees: &[u16], p: usize) -> [u16; 64]
-    requires { ⌜ length (now addressees) ≡ 64 ⌝ }
-    requires { ⌜ p < 16 ⌝ }
-    ensures { λ r. ⌜ Deliverable (now (addressees .entry)) p r ⌝ }
-{
-    let mut t: [u16; 64] = [0; 64];
-    let mut m: usize = 0;
-    while m < 64 {
-        t[m] = flag(addressees[m], p);
         m += 1;
     }
     t

@@ -1,211 +1,197 @@
--- A log by its counts: its items are distinct and pass a test exactly when they are below 64 and none is
--- counted more often than the test's table allows, once where it passes and never elsewhere. Assumes nothing.
+-- A log by its set: its items are distinct exactly if the set has as many members; and what one pass gathers. Assumes
+-- nothing.
 use mathlib.Core.Path.{_≡_, refl, sym, ap, ap₂, _∙_, subst}
-use mathlib.Core.Bool.{Bool, true, false, not, _&&_}
+use mathlib.Core.Bool.{Bool, true, false, not, _&&_, _||_}
 use mathlib.Core.List.{List}
-use Prim.Native.Nat.{ℕ, zero, suc, _+_, _%_, _≤_, _<_}
+use Prim.Native.Nat.{ℕ, zero, suc, _+_, _^_, _<_}
 use native.Mathlib.Omega.{arith}
 use native.Mathlib.Decide.{ℕ-discrete}
 use native.Mathlib.Numerals.{add-one}
-use lib.Dec.{ltb, leb, eqb}
-use lib.ListN.{length, getD, set, List·getD-eq-default}
+use lib.Bits.{bitAnd, bitOr}
+use lib.Dec.{eqb}
+use lib.ListN.{length, getD, set}
 use lib.Seq.{getD-set-same, getD-set-other}
-use borrow.Author.Tests.{eq-eqb, ne-eqb, eqb-true, ltb-true, ltb-false, lt-ltb, le-leb, leb-true}
-use Rattle.definitions.specs.General.{pick, every, tally, in-at, absent}
-use Rattle.base.specs.Tests.{clash, both-l, both-r, both-i, same}
-use Rattle.base.specs.Search.{every-true, every-intro}
-use Rattle.base.specs.Count.{tally-zero, tally-cong, tally-falls, tally-pos, absent-in, absent-out, out-absent}
-use Rattle.ranges.specs.Ranges.{within-at}
-use Rattle.logtest.specs.Log.{Counts, Flags, item-ok}
+use borrow.Author.Tests.{eq-eqb, ne-eqb, eqb-true}
+use Rattle.definitions.specs.General.{pick, every, tally, in-at, absent, bit}
+use Rattle.base.specs.Tests.{both, clash, same, and-swap}
+use Rattle.base.specs.Search.{every-true, every-intro, every-next}
+use Rattle.base.specs.Count.{tally-le, tally-zero, tally-cong, tally-falls, absent-in, in-absent}
+use Rattle.base.specs.Bits.{bit-and}
+use Rattle.base.specs.Sets.{subset-e, subset-i}
+use Rattle.ranges.specs.Laws.{every-both}
+use Rattle.sets.specs.Members.{Members, members-none}
+use Rattle.sets.specs.Powers.{Powers, members-or}
+use Rattle.logtest.specs.Log.{Passed, item-ok}
 
--- ---- the loop: none yet, one item more
-tally-next : (f : ℕ → Bool) (i : ℕ) (b : Bool) → f i ≡ b → tally (i + 1) f
-    ≡ pick b (suc (tally i f)) (tally i f)
+-- ---- the pass: none yet, one item more
+tally-next : (f : ℕ → Bool) (i : ℕ) (b : Bool) → f i ≡ b → tally (i + 1) f ≡ pick b (suc (tally i f)) (tally i f)
 unfolding tally
 tally-next f i b e =
     ap (λ (n : ℕ). tally n f) (add-one i) ∙ ap (λ (x : Bool). pick x (suc (tally i f)) (tally i f)) e
 
-pub counts-none : (log : ℕ → ℕ) (t : List ℕ) → length t ≡ 64 → ((m : ℕ) → m < 64 → getD t m 0 ≡ 0)
-    → Counts log 0 t
-unfolding tally
-counts-none log t l h = record { long = l; at = h }
+ones : every 16 (bit 65535) ≡ true
+unfolding every bit
+ones = refl
 
-pub counts-more : (log : ℕ → ℕ) (i : ℕ) (t t′ : List ℕ) (m v : ℕ) → t′ ≡ set t m v → length t′ ≡ 64
-    → m ≡ log i % 64 → v ≡ getD t m 0 + 1 → Counts log i t → Counts log (i + 1) t′
-counts-more log i t t′ m v et l em ev h = record {
+pub passed-none : (log : ℕ → ℕ) (to from counts : List ℕ) → length counts ≡ 16
+    → ((q : ℕ) → q < 16 → getD counts q 0 ≡ 0) → Passed log 0 to from 0 65535 counts
+unfolding tally every
+passed-none log to from counts l h = record {
+  members = members-none log;
+  common = λ p k. every-true 16 (bit 65535) ones p k;
   long = l;
-  at = λ x k. ap (λ (y : List ℕ). getD y x 0) et ∙ go x k (ℕ-discrete m x);
+  counted = h;
+}
+
+pub passed-more : (log : ℕ → ℕ) (i : ℕ) (to from bits : List ℕ) (set all : ℕ) (t t′ : List ℕ) (m q v : ℕ) → Powers bits
+    → m ≡ log i → m < 64 → q ≡ getD from m 0 → q < 16 → v ≡ getD t q 0 + 1 → t′ ≡ lib.ListN.set t q v → length t′ ≡ 16
+    → Passed log i to from set all t
+    → Passed log (i + 1) to from (bitOr set (getD bits m 0)) (bitAnd all (getD to m 0)) t′
+passed-more log i to from bits set all t t′ m q v pw em hm eq hq ev et l h = record {
+  members = members-or set i m log bits pw (h .members) em hm;
+  common = λ p k. bit-and all (getD to m 0) p
+      ∙ ap₂ both (h .common p k) (ap (λ (x : ℕ). bit (getD to x 0) p) em)
+      ∙ and-swap (every i (λ j. bit (getD to (log j) 0) p)) (bit (getD to (log i) 0) p)
+      ∙ sym (every-next (λ j. bit (getD to (log j) 0) p) i);
+  long = l;
+  counted = λ x k. ap (λ (y : List ℕ). getD y x 0) et ∙ go x k (ℕ-discrete q x);
 }
   where
     f : ℕ → ℕ → Bool
-    f x j = eqb (log j % 64) x
+    f x j = eqb (getD from (log j) 0) x
 
-    room : m < 64
-    room = omega arith
+    is : q ≡ getD from (log i) 0
+    is = eq ∙ ap (λ (x : ℕ). getD from x 0) em
 
-    go : (x : ℕ) → x < 64 → Dec (m ≡ x) → getD (set t m v) x 0 ≡ tally (i + 1) (f x)
+    go : (x : ℕ) → x < 16 → Dec (q ≡ x) → getD (lib.ListN.set t q v) x 0 ≡ tally (i + 1) (f x)
     go x k (yes e) =
-        let z = h .at m room in
-        let y : getD t m 0 + 1 ≡ suc (tally i (λ j. eqb (log j % 64) m)) = omega arith in
-        subst (λ (y : ℕ). getD (set t m v) y 0 ≡ tally (i + 1) (f y)) e
-        (getD-set-same t m v 0 (let z = h .long in omega arith) ∙ ev ∙ y
-        ∙ sym (tally-next (f m) i true (eq-eqb (log i % 64) m (sym em))))
+        let z = h .counted q hq in
+        let y : getD t q 0 + 1 ≡ suc (tally i (λ j. eqb (getD from (log j) 0) q)) = omega arith in
+        subst (λ (y : ℕ). getD (lib.ListN.set t q v) y 0 ≡ tally (i + 1) (f y)) e
+        (getD-set-same t q v 0 (let z = h .long in omega arith) ∙ ev ∙ y
+        ∙ sym (tally-next (f q) i true (eq-eqb (getD from (log i) 0) q (sym is))))
     go x k (no e) =
-        getD-set-other t m x v 0 (λ z. e (sym z)) ∙ h .at x k
-        ∙ sym (tally-next (f x) i false (ne-eqb (log i % 64) x (λ z. e (em ∙ z))))
+        getD-set-other t q x v 0 (λ z. e (sym z)) ∙ h .counted x k
+        ∙ sym (tally-next (f x) i false (ne-eqb (getD from (log i) 0) x (λ z. e (is ∙ z))))
 
--- ---- counting what is listed
--- two that pass
-twice : (n : ℕ) (f : ℕ → Bool) (i j : ℕ) → i < j → j < n → f i ≡ true → f j ≡ true → 1 < tally n f
-twice n f i j a b p q =
-    let out : (f i && not (eqb i i)) ≡ false = ap₂ (λ (x y : Bool). x && not y) p (eq-eqb i i refl) in
-    let kept : (f j && not (eqb j i))
-    ≡ true = ap₂ (λ (x y : Bool). x && not y) q (ne-eqb j i (λ e. omega arith)) in
-    let falls = tally-falls n f (λ x. f x && not (eqb x i)) (λ x e. both-l (f x) (not (eqb x i)) e) i
-    (omega arith) p out in
-    let pos = tally-pos n (λ x. f x && not (eqb x i)) j b kept in
-    omega arith
-
--- a number is listed at most once where the items are distinct
-once : (n : ℕ) (log : ℕ → ℕ) (m : ℕ) → ((i : ℕ) → i < n → absent i (log i) log ≡ true)
-    → tally n (λ i. eqb (log i) m) ≤ 1
+-- ---- as many members as items
+-- one more than before passes
+tally-add : (n : ℕ) (f g : ℕ → Bool) (v : ℕ) → v < n → ((i : ℕ) → i < n → g i ≡ (f i || eqb v i)) → f v ≡ false
+    → tally n g ≡ suc (tally n f)
 unfolding tally
-once zero log m h = omega arith
-once (suc n) log m h = go (eqb (log n) m) refl (once n log m (λ i l. h i (omega arith)))
+tally-add zero f g v l h e = absurd (omega arith)
+tally-add (suc n) f g v l h e = go (ℕ-discrete v n) (λ k. tally-add n f g v k (λ i j. h i (omega arith)) e)
   where
-    go : (b : Bool) → eqb (log n) m ≡ b → tally n (λ i. eqb (log i) m) ≤ 1
-        → pick b (suc (tally n (λ i. eqb (log i) m))) (tally n (λ i. eqb (log i) m)) ≤ 1
-    go true e ih =
-        let z = tally-zero n (λ i. eqb (log i) m) (λ i l. ne-eqb (log i) m
-        (λ q. absent-out n (log n) log (h n (omega arith)) (in-at i l (q ∙ sym (eqb-true (log n) m e))))) in
-        omega arith
-    go false e ih = ih
+    or-no : (b : Bool) → (b || false) ≡ b
+    or-no true = refl
+    or-no false = refl
 
--- ---- the tests at the end
-module _ (log : ℕ → ℕ) (n : ℕ) (t : List ℕ) (c : Counts log n t) where
-  -- as often as counted, where the items are below 64
-  often : ((i : ℕ) → i < n → log i < 64) → (m : ℕ) → m < 64 → getD t m 0 ≡ tally n (λ i. eqb (log i) m)
-  often low m l =
-      c .at m l
-      ∙ tally-cong n (λ i. eqb (log i % 64) m) (λ i. eqb (log i) m)
-      (λ i k. let e : log i % 64 ≡ log i = omega (arith, low i k) in ap (λ (x : ℕ). eqb x m) e)
+    last : (b : Bool) (t : ℕ) → pick b (suc (suc t)) (suc t) ≡ suc (pick b (suc t) t)
+    last true t = refl
+    last false t = refl
 
-  module _ (a : List ℕ) (test : ℕ → Bool) (f : Flags a test) where
-    at-zero : (i : ℕ) → 0 + i ≡ i
-    at-zero i = omega arith
+    go : Dec (v ≡ n) → (v < n → tally n g ≡ suc (tally n f)) → tally (suc n) g ≡ suc (tally (suc n) f)
+    go (yes d) ih =
+        let fn : f n ≡ false = ap f (sym d) ∙ e in
+        let gn : g n ≡ true = h n (omega arith) ∙ ap₂ _||_ fn (eq-eqb v n d) in
+        let same-below : tally n g ≡ tally n f =
+        tally-cong n g f (λ i k. h i (omega arith)
+        ∙ ap (λ (b : Bool). f i || b) (ne-eqb v i (λ z. omega arith)) ∙ or-no (f i)) in
+        rw (gn, fn) (ap suc same-below)
+    go (no d) ih =
+        let gn : g n ≡ f n = h n (omega arith) ∙ ap (λ (b : Bool). f n || b) (ne-eqb v n d) ∙ or-no (f n) in
+        ap₂ (λ (b : Bool) (t : ℕ). pick b (suc t) t) gn (ih (omega arith)) ∙ last (f n) (tally n f)
 
-    one : (m : ℕ) → test m ≡ true → getD a m 0 ≡ 1
-    one m e = eqb-true (getD a m 0) 1 (f .flag m ∙ e)
+-- the different items are those that none before is
+different : (k n : ℕ) (log : ℕ → ℕ) → ((i : ℕ) → i < n → log i < k)
+    → tally k (λ m. not (absent n m log)) ≡ tally n (λ i. absent i (log i) log)
+unfolding tally absent every
+different k zero log low = tally-zero k (λ m. not (absent 0 m log)) (λ i _. refl)
+different k (suc n) log low = go (absent n (log n) log) refl (different k n log (λ i l. low i (omega arith)))
+  where
+    f : ℕ → Bool
+    f m = not (absent n m log)
 
-    -- what passes is below 64
-    inside : (m : ℕ) → test m ≡ true → m < 64
-    inside m e = go (ltb m 64) refl
+    g : ℕ → Bool
+    g m = not (absent (suc n) m log)
+
+    grown : (m : ℕ) → g m ≡ (f m || eqb (log n) m)
+    grown m = at (eqb (log n) m) (absent n m log)
       where
-        go : (b : Bool) → ltb m 64 ≡ b → m < 64
-        go true q = ltb-true m 64 q
-        go false q =
-            let z = List·getD-eq-default a 0 {n = m}
-            (let y = ltb-false m 64 q in let x = f .long in omega arith) in
-            let o = one m e in
-            absurd (omega arith)
+        at : (a b : Bool) → not (elim (not a) [ true ↦ b | false ↦ false ]) ≡ (not b || a)
+        at true true = refl
+        at true false = refl
+        at false true = refl
+        at false false = refl
 
-    items : ((i : ℕ) → i < n → log i < 64) → ((m : ℕ) → m < 64 → getD t m 0 ≤ getD a m 0)
-        → (i : ℕ) → i < n → item-ok log test i ≡ true
-    unfolding item-ok
-    items low most i l =
-        let m : ℕ = log i in
-        let p = tally-pos n (λ j. eqb (log j) m) i l (eq-eqb m m refl) in
-        let o = often low m (low i l) in
-        let b = most m (low i l) in
-        let s = f .small m (low i l) in
-        both-i (test m) (absent i m log) (sym (f .flag m) ∙ eq-eqb (getD a m 0) 1 (omega arith))
-        (out-absent (λ x. elim x [ in-at j k e ↦ again j k e p o b s ]))
+    go : (b : Bool) → absent n (log n) log ≡ b → tally k f ≡ tally n (λ i. absent i (log i) log)
+        → tally k g ≡ pick b (suc (tally n (λ i. absent i (log i) log))) (tally n (λ i. absent i (log i) log))
+    go true e ih = tally-add k f g (log n) (low n (omega arith)) (λ i _. grown i) (ap not e) ∙ ap suc ih
+    go false e ih = tally-cong k g f (λ i _. grown i ∙ at i (ℕ-discrete (log n) i)) ∙ ih
       where
-        again : (j : ℕ) → j < i → log j ≡ log i → 0 < tally n (λ j. eqb (log j) (log i))
-            → getD t (log i) 0 ≡ tally n (λ j. eqb (log j) (log i)) → getD t (log i) 0 ≤ getD a (log i) 0
-            → getD a (log i) 0 ≤ 1 → ⊥
-        again j k e p o b s =
-            let z = twice n (λ j. eqb (log j) (log i)) j i k l (eq-eqb (log j) (log i) e)
-            (eq-eqb (log i) (log i) refl) in
-            omega arith
+        or-yes : (a : Bool) → a ≡ true → (a || true) ≡ a
+        or-yes true q = refl
+        or-yes false q = clash {b = false} q refl
 
-    module _ (h : (i : ℕ) → i < n → item-ok log test i ≡ true) where
-      passes : (i : ℕ) → i < n → test (log i) ≡ true
-      unfolding item-ok
-      passes i l = both-l (test (log i)) (absent i (log i) log) (h i l)
+        or-no : (a : Bool) → (a || false) ≡ a
+        or-no true = refl
+        or-no false = refl
 
-      alone : (i : ℕ) → i < n → absent i (log i) log ≡ true
-      unfolding item-ok
-      alone i l = both-r (test (log i)) (absent i (log i) log) (h i l)
+        at : (i : ℕ) → Dec (log n ≡ i) → (f i || eqb (log n) i) ≡ f i
+        at i (yes d) =
+            ap (λ (b : Bool). f i || b) (eq-eqb (log n) i d)
+            ∙ or-yes (f i) (ap not (ap (λ (m : ℕ). absent n m log) (sym d) ∙ e))
+        at i (no d) = ap (λ (b : Bool). f i || b) (ne-eqb (log n) i d) ∙ or-no (f i)
 
-      most-of : (m : ℕ) → m < 64 → getD t m 0 ≤ getD a m 0
-      most-of m l = go (test m) refl
-        where
-          o : getD t m 0 ≡ tally n (λ i. eqb (log i) m)
-          o = often (λ i k. inside (log i) (passes i k)) m l
+-- all pass exactly if n do
+tally-all : (n : ℕ) (f : ℕ → Bool) → ((i : ℕ) → i < n → f i ≡ true) → tally n f ≡ n
+unfolding tally
+tally-all zero f h = refl
+tally-all (suc n) f h = rw (h n (omega arith)) (ap suc (tally-all n f (λ i l. h i (omega arith))))
 
-          go : (b : Bool) → test m ≡ b → getD t m 0 ≤ getD a m 0
-          go true e = let x = one m e in let y = once n log m alone in let z = o in omega arith
-          go false e =
-              let z = tally-zero n (λ i. eqb (log i) m) (λ i k. ne-eqb (log i) m
-              (λ q. clash (ap test (sym q) ∙ passes i k) e)) in
-              let x = o in
-              omega arith
+tally-full : (n : ℕ) (f : ℕ → Bool) → eqb (tally n f) n ≡ every n f
+tally-full n f =
+    same (eqb (tally n f) n) (every n f)
+    (λ e. every-intro n f (λ i l. at i l (eqb-true (tally n f) n e) (f i) refl))
+    (λ e. eq-eqb (tally n f) n (tally-all n f (every-true n f e)))
+  where
+    at : (i : ℕ) → i < n → tally n f ≡ n → (b : Bool) → f i ≡ b → f i ≡ true
+    at i l e true q = q
+    at i l e false q =
+        let z = tally-falls n (λ _. true) f (λ _ _. refl) i l refl q in
+        let y = tally-le n (λ _. true) in
+        absurd (omega arith)
 
-    pub log-test : (every n (λ i. ltb (log i) 64) && within-at t 0 a 0 64) ≡ every n (item-ok log test)
-    unfolding within-at
-    log-test =
-        same (every n (λ i. ltb (log i) 64) && every 64 (λ m. leb (getD t (0 + m) 0) (getD a (0 + m) 0)))
-        (every n (item-ok log test))
-        (λ e. every-intro n (item-ok log test) (items
-        (λ i l. ltb-true (log i) 64
-        (every-true n (λ i. ltb (log i) 64)
-        (both-l (every n (λ i. ltb (log i) 64)) (every 64 (λ m. leb (getD t (0 + m) 0) (getD a (0 + m) 0))) e)
-        i l))
-        (λ m l. let z = leb-true (getD t (0 + m) 0) (getD a (0 + m) 0)
-        (every-true 64 (λ m. leb (getD t (0 + m) 0) (getD a (0 + m) 0))
-        (both-r (every n (λ i. ltb (log i) 64)) (every 64 (λ m. leb (getD t (0 + m) 0) (getD a (0 + m) 0))) e)
-        m l) in
-        rw (at-zero m) at z)))
-        (λ e. let h : (i : ℕ) → i < n → item-ok log test i ≡ true = every-true n (item-ok log test) e in
-        both-i (every n (λ i. ltb (log i) 64)) (every 64 (λ m. leb (getD t (0 + m) 0) (getD a (0 + m) 0)))
-        (every-intro n (λ i. ltb (log i) 64) (λ i l. lt-ltb (log i) 64 (inside (log i) (passes h i l))))
-        (every-intro 64 (λ m. leb (getD t (0 + m) 0) (getD a (0 + m) 0))
-        (λ m l. le-leb (getD t (0 + m) 0) (getD a (0 + m) 0)
-        (rw (at-zero m) (most-of h m l)))))
+module _ (log : ℕ → ℕ) (n set : ℕ) (low : (i : ℕ) → i < n → log i < 64) (h : Members set n log) where
+  distinct : eqb (tally 64 (bit set)) n ≡ every n (λ i. absent i (log i) log)
+  distinct =
+      ap (λ (x : ℕ). eqb x n) (tally-cong 64 (bit set) (λ m. not (absent n m log)) h ∙ different 64 n log low)
+      ∙ tally-full n (λ i. absent i (log i) log)
 
-    -- the counts of distinct items are the flags of what is listed
-    pub counts-flags : every n (item-ok log test) ≡ true → Flags t (λ m. not (absent n m log))
-    counts-flags e = record {
-      long = c .long;
-      small = λ m l. let o = often low m l in let y = once n log m (alone h) in omega arith;
-      flag = λ m. go m (ltb m 64) refl (absent n m log) refl;
-    }
-      where
-        h : (i : ℕ) → i < n → item-ok log test i ≡ true
-        h = every-true n (item-ok log test) e
+  -- with a test that every item passes
+  pub items-law : (test : ℕ → Bool) (good : Bool) → good ≡ every n (λ i. test (log i))
+      → (eqb (tally 64 (bit set)) n && good) ≡ every n (item-ok log test)
+  unfolding item-ok
+  items-law test good e =
+      ap₂ both distinct e ∙ and-swap (every n (λ i. absent i (log i) log)) (every n (λ i. test (log i)))
+      ∙ sym (every-both n (λ i. test (log i)) (λ i. absent i (log i) log))
 
-        low : (i : ℕ) → i < n → log i < 64
-        low i l = inside (log i) (passes h i l)
+  -- the items are among those of another log exactly if the set is within its set
+  pub within-law : (k other : ℕ) (first : ℕ → ℕ) → set < 2 ^ 64 → Members other k first
+      → eqb (bitAnd set other) set ≡ every n (λ i. not (absent k (log i) first))
+  within-law k other first small o =
+      same (eqb (bitAnd set other) set) (every n (λ i. not (absent k (log i) first)))
+      (λ e. every-intro n (λ i. not (absent k (log i) first))
+      (λ i l. sym (o (log i) (low i l)) ∙ subset-e set other (eqb-true (bitAnd set other) set e) (log i)
+      (h (log i) (low i l) ∙ ap not (in-absent {f = log} (in-at i l refl)))))
+      (λ e. eq-eqb (bitAnd set other) set
+      (subset-i 64 set other small (λ x l p. o x l ∙ at e x (absent-in n x log (out (absent n x log) (sym (h x l) ∙ p))))))
+    where
+      out : (b : Bool) → not b ≡ true → b ≡ false
+      out true q = clash {b = false} q refl
+      out false q = refl
 
-        go : (m : ℕ) (b : Bool) → ltb m 64 ≡ b → (x : Bool) → absent n m log ≡ x → eqb (getD t m 0) 1
-            ≡ not (absent n m log)
-        go m true q true p =
-            let z = tally-zero n (λ i. eqb (log i) m)
-            (λ i l. ne-eqb (log i) m (λ r. absent-out n m log p (in-at i l r))) in
-            let o = often low m (ltb-true m 64 q) in
-            ne-eqb (getD t m 0) 1 (λ r. omega arith) ∙ sym (ap not p)
-        go m true q false p =
-            let o = often low m (ltb-true m 64 q) in
-            let y = once n log m (alone h) in
-            let z : 0 < tally n (λ i. eqb (log i) m) =
-            elim (absent-in n m log p)
-            [ in-at i l r ↦ tally-pos n (λ i. eqb (log i) m) i l (eq-eqb (log i) m r) ] in
-            eq-eqb (getD t m 0) 1 (omega arith) ∙ sym (ap not p)
-        go m false q x p =
-            let z = List·getD-eq-default t 0 {n = m}
-            (let y = ltb-false m 64 q in let v = c .long in omega arith) in
-            let k : absent n m log
-            ≡ true = out-absent (λ r. elim r
-            [ in-at i l s ↦ (let y = ltb-false m 64 q in let v = low i l in omega arith) ]) in
-            ne-eqb (getD t m 0) 1 (λ r. omega arith) ∙ sym (ap not k)
+      at : every n (λ i. not (absent k (log i) first)) ≡ true → (x : ℕ) → Rattle.definitions.specs.General.In n log x
+          → not (absent k x first) ≡ true
+      at e x (in-at i l d) =
+          ap (λ (y : ℕ). not (absent k y first)) (sym d) ∙ every-true n (λ i. not (absent k (log i) first)) e i l

@@ -1,44 +1,33 @@
-// A log tested by how often it lists each message: one pass counts, and the tests come after it.
-ghost use mathlib.Core.Path.{_≡_};
-ghost use Prim.Native.Nat.{_+_, _≤_};
-ghost use lib.ListN.{length};
-ghost use Rattle.logtest.specs.Log.{log-at, low-at, Counts, Room, listed-at};
+// One pass over the FIFO log of a process.
+ghost use Rattle.logtest.specs.Log.{log-at, Passable, Passed};
 
-// Whether the n items from a on are below 64.
-fn low(w: &[u16], a: usize, n: usize) -> bool
-    requires { ⌜ a + n ≤ length (now w) ⌝ }
-    ensures { λ r. ⌜ r ≡ low-at (now (w .entry)) a n ⌝ }
-{
-    let mut ok = true;
-    let mut i: usize = 0;
-    while i < n {
-        ok = ok & (w[a + i] < 64);
-        i += 1;
-    }
-    ok
+// The set of the items, the processes that every item is addressed to, how many items are of each sender.
+pub struct Gathered {
+    pub set: u64,
+    pub all: u16,
+    pub counts: [u16; 16],
 }
 
-// How often each number below 64 is among the n items from a on, modulo 64.
-pub fn counts(w: &[u16], a: usize, n: usize) -> [u16; 64]
-    requires { ⌜ a + n ≤ length (now w) ⌝ }
-    requires { ⌜ n ≤ 64 ⌝ }
-    ensures { λ r. ⌜ Counts (log-at (now (w .entry)) a) n r ⌝ }
+// What the n items from a on tell, each below 64, by the addressees and the senders of the messages and the bits of a set.
+pub fn pass(w: &[u16], a: usize, n: usize, to: &[u16], from: &[u32], bits: &[u64]) -> Gathered
+    requires { ⌜ Passable (now w) a n (now to) (now from) (now bits) ⌝ }
+    ensures { λ r. ⌜ Passed (log-at (now (w .entry)) a) n (now (to .entry)) (now (from .entry)) (r .set) (r .all) (r .counts) ⌝ }
 {
-    let mut t: [u16; 64] = [0; 64];
+    let mut set: u64 = 0;
+    let mut all: u16 = 65535;
+    let mut counts: [u16; 16] = [0; 16];
     let mut i: usize = 0;
     while i < n {
-        let m = cells::word(w, a + i) % 64;
-        t[m] = t[m] + 1;
+        let m = cells::word(w, a + i);
+        let q = from[m] as usize;
+        set = set | bits[m];
+        all = all & to[m];
+        counts[q] = counts[q] + 1;
         i += 1;
     }
-    t
-}
-
-// Whether the log of n items from a on, counted in t, lists each number as often as it may, with zeros after
-// it.
-pub fn listed(w: &[u16], a: usize, n: usize, t: &[u16], may: &[u16]) -> bool
-    requires { ⌜ Room (now w) a n (now t) (now may) ⌝ }
-    ensures { λ r. ⌜ r ≡ listed-at (now (w .entry)) a n (now (t .entry)) (now (may .entry)) ⌝ }
-{
-    low(w, a, n) & ranges::within(t, 0, may, 0, 64) & ranges::zeros(w, a + n, 64 - n)
+    Gathered {
+        set: set,
+        all: all,
+        counts: counts,
+    }
 }

@@ -1,5 +1,5 @@
--- The machine's counts of bits are those of a mask as a set of the numbers below 16: the ones are its
--- members, the trailing zeros its lowest member. Assumes nothing.
+-- The machine's count of ones is that of a mask as a set of the numbers below its width: the ones are its members.
+-- Assumes nothing.
 use mathlib.Core.Path.{_≡_, refl, sym, ap, ap₂, _∙_}
 use mathlib.Core.Bool.{Bool, true, false}
 use Prim.Native.Nat.{ℕ, zero, suc, _+_, _/_, _%_, _^_, _<_}
@@ -9,8 +9,8 @@ use native.Mathlib.Omega.{arith}
 use lib.Arith.{lt-one}
 use lib.Pow.{shr-shr, shr-lt}
 use lib.Dec.{eqb, lit<}
-use lib.Count.{ones, onesIn, ones-step, trailingZeros, under}
-use Rattle.definitions.specs.General.{pick, first-from, tally, bit}
+use lib.Count.{ones, onesIn, ones-step}
+use Rattle.definitions.specs.General.{pick, tally, bit}
 use Rattle.base.specs.Count.{tally-cong}
 
 -- a binary digit is 1 or 0
@@ -61,29 +61,5 @@ ones-in zero n h = ap ones (lt-one h)
 ones-in (suc k) n h =
     ones-step n ∙ ap (λ (x : ℕ). n % 2 + x) (ones-in k (n / 2) (shr-lt k 1 (rw (add-one k) h)))
 
-pub ones-members : (m : ℕ) → m < 2 ^ 16 → ones m ≡ tally 16 (bit m)
-ones-members m h = ones-in 16 m h ∙ ones-tally 16 m
-
--- ---- the trailing zeros are the lowest member
-rest : (m p : ℕ) → m / 2 ^ p / 2 ≡ m / 2 ^ suc p
-rest m p = shr-shr m p 1 ∙ ap (λ (x : ℕ). m / 2 ^ x) (add-one p)
-
-digit-under : (d p t l : ℕ) → d < 2 → suc p + t ≡ l
-    → p + under d t ≡ elim (eqb d 1) as (λ _. ℕ) [ true ↦ p | false ↦ l ]
-digit-under zero p t l h e = omega arith
-digit-under (suc zero) p t l h e = omega arith
-digit-under (suc (suc d)) p t l h e = absurd (not-suc-le-zero (le-of-suc-le-suc (le-of-suc-le-suc h)))
-
-from-trailing : (k p m : ℕ) → p + trailingZeros k (m / 2 ^ p) ≡ first-from k p (bit m)
-unfolding trailingZeros first-from bit
-from-trailing zero p m = omega arith
-from-trailing (suc k) p m =
-    digit-under (m / 2 ^ p % 2) p (trailingZeros k (m / 2 ^ p / 2)) (first-from k (suc p) (bit m))
-    (mod-lt (m / 2 ^ p) (lit< tt))
-    (ap (λ (x : ℕ). suc p + trailingZeros k x) (rest m p) ∙ from-trailing k (suc p) m)
-
-pub trailing-lowest : (m : ℕ) → trailingZeros 16 m ≡ first-from 16 0 (bit m)
-trailing-lowest m =
-    let e : 0 + trailingZeros 16 (m / 1) ≡ first-from 16 0 (bit m) = from-trailing 16 0 m in
-    let f : trailingZeros 16 (m / 1) ≡ trailingZeros 16 m = ap (trailingZeros 16) (div-one m) in
-    omega arith
+pub ones-members : (k m : ℕ) → m < 2 ^ k → ones m ≡ tally k (bit m)
+ones-members k m h = ones-in k m h ∙ ones-tally k m

@@ -1,2 +1,3 @@
 pub mod Raise
 pub mod Multicast
+pub mod Indexed

@@ -1,13 +1,14 @@
 // The multicast of a message by process p to the groups of a mask, with an order number: p's counters and sequence counts rise,
 // are then copied onto the message, the message is numbered, and first letters go in flight.
 ghost use mathlib.Core.Path.{_≡_};
-ghost use Prim.Native.Nat.{_<_};
-ghost use lib.ListN.{length};
-ghost use Rattle.definitions.specs.General.{bit, pick};
+ghost use Prim.Native.Nat.{_+_, _<_};
+ghost use lib.ListN.{length, getD, set};
+ghost use Rattle.definitions.specs.General.{bit, pick, with};
 ghost use Rattle.definitions.specs.World.{count, view, encode};
-ghost use Rattle.definitions.specs.Machine.{numbered, multicast};
+ghost use Rattle.definitions.specs.Machine.{addressees, numbered, multicast};
 ghost use Rattle.world.specs.Layout.{Changes};
 ghost use Rattle.bounds.specs.Bounds.{Bounds};
+ghost use Rattle.index.specs.Index.{Index};
 ghost use Rattle.multicasts.specs.Raise.{Below, raised-one, raised-below, Low};
 ghost use Rattle.multicasts.specs.Multicast.{with-stamps, with-copy};
 
@@ -76,13 +77,24 @@ fn enter(w: &mut [u16], p: usize, groups: u16, order: u16)
     w[cells::COUNT] = (m + 1) as u16;
 }
 
+// Message m of p, and who its addressees are, go into the index.
+fn index_new(w: &[u16], x: &mut [u64], p: usize, m: usize)
+    requires { ⌜ (length (now w) ≡ 20480) × (length (now x) ≡ 112) × (p < 16) × (m < 64) × Bounds (view (now w)) ⌝ }
+    ensures { λ _. ⌜ now (x .exit) ≡ set (set (now (x .entry)) m (addressees (view (now (w .entry))) m)) (64 + p) (with (getD (now (x .entry)) (64 + p) 0) m) ⌝ }
+{
+    x[m] = sends::addressees_of(w, m) as u64;
+    x[index::OWN + p] = sets::join(x[index::OWN + p], m);
+}
+
 // The whole multicast.
-pub fn send_new(w: &mut [u16], p: usize, groups: u16, order: u16)
-    requires { ⌜ (length (now w) ≡ 20480) × (p < 16) × (view (now w) count < 64) × Bounds (view (now w)) × Low (view (now w)) p ⌝ }
-    ensures { λ _. ⌜ now (w .exit) ≡ encode (multicast (view (now (w .entry))) p groups order) ⌝ }
+pub fn send_new(w: &mut [u16], x: &mut [u64], p: usize, groups: u16, order: u16)
+    requires { ⌜ (length (now w) ≡ 20480) × (p < 16) × (view (now w) count < 64) × Bounds (view (now w)) × Low (view (now w)) p × Index (view (now w)) (now x) ⌝ }
+    ensures words { λ _. ⌜ now (w .exit) ≡ encode (multicast (view (now (w .entry))) p groups order) ⌝ }
+    ensures index { λ _. ⌜ Index (view (now (w .exit))) (now (x .exit)) ⌝ }
 {
     let m = cells::word(w, cells::COUNT);
     raise(w, p, groups, m);
     enter(w, p, groups, order);
-    sends::send(w, p, m, 0);
+    index_new(w, x, p, m);
+    sends::send(w, x, p, m, 0);
 }

@@ -1,5 +1,5 @@
 // The preview of a step of a sound world, for callers that know it to be sound: the step is judged on the world, and only
-// one that is taken is done, on a copy. A refusal changes nothing.
+// one that is taken is done, on a copy and with the index of both. A refusal changes nothing of the copy.
 use definitions::Previewing;
 use given::Given;
 use stepping::Judged;
@@ -11,13 +11,14 @@ ghost use Rattle.definitions.specs.Words.{log-length, previewed-words, preview-
 ghost use Rattle.definitions.specs.Answers.{previewing-reply};
 ghost use Rattle.definitions.specs.Previews.{step-process};
 ghost use Rattle.world.specs.SoundLaws.{Sound};
+ghost use Rattle.index.specs.Index.{Index};
 ghost use Rattle.given.specs.Given.{step-of};
 
 // The process of a step, the only one that can deliver.
-fn process(x: Given) -> usize
-    ensures { λ r. ⌜ r ≡ step-process (step-of x) ⌝ }
+fn process(g: Given) -> usize
+    ensures { λ r. ⌜ r ≡ step-process (step-of g) ⌝ }
 {
-    match x {
+    match g {
         Given::Multicast(p, _, _) => p,
         Given::Arrival(_, _, _, p) => p,
         Given::Loss(_, _, _, p) => p,
@@ -36,17 +37,17 @@ fn growth(w: &[u16], second: &[u16], p: usize, causal: bool) -> u32
 }
 
 // The step that the bytes ask for, done on a copy of the world, with the deliveries that it adds.
-pub fn preview(w: &[u16], bytes: &[u8], second: &mut [u16]) -> Previewing
-    requires { ⌜ (length (now w) ≡ 20480) × (length (now second) ≡ 20480) × Sound (view (now w)) ⌝ }
+pub fn preview(w: &[u16], x: &mut [u64], bytes: &[u8], second: &mut [u16]) -> Previewing
+    requires { ⌜ (length (now w) ≡ 20480) × (length (now second) ≡ 20480) × Sound (view (now w)) × Index (view (now w)) (now x) ⌝ }
     ensures answer { λ r. ⌜ previewing-reply r ≡ preview-reply (now (w .entry)) (now (bytes .entry)) (now (second .entry)) ⌝ }
     ensures words { λ _. ⌜ now (second .exit) ≡ previewed-words (now (w .entry)) (now (bytes .entry)) (now (second .entry)) ⌝ }
 {
     match stepping::judge(w, bytes) {
         Judged::Refused(r) => Previewing::Refused(r),
-        Judged::Taken(x) => {
+        Judged::Taken(g) => {
             cells::copy(w, second);
-            stepping::act(second, x, false);
-            let p = process(x);
+            stepping::act(second, x, g, false);
+            let p = process(g);
             let fifo = growth(w, second, p, false);
             let causal = growth(w, second, p, true);
             Previewing::Adds(fifo, causal)

@@ -1,3 +1,2 @@
 pub mod Quiescent
 pub mod Steps
-pub mod Turn

@@ -10,7 +10,7 @@ use native.Mathlib.Decide.{ℕ-discrete}
 use lib.Dec.{eqb}
 use Rattle.definitions.specs.General.{every, first-from, chosen, bit}
 use Rattle.definitions.specs.World.{Cell, size, count, rule, group, trust, counter, sequence, next, delivered, up, fifo-length, causal-length, held, marks, fifo, causal, sender, mask, stamp, number, flight, order, unused, State, put, addressed, outside-fifo}
-use Rattle.definitions.specs.Machine.{with-tables, in-turn, marked, ready, merge, causal-one, causal-all, appended, raised-next, send-oks, fifo-one, cascade, leave, mark, received, arrival}
+use Rattle.definitions.specs.Machine.{with-tables, in-turn, marked, ready, merge, causal-one, causal-all, appended, raised-next, send-oks, fifo-one, cascade, received, arrival}
 use Rattle.base.specs.Tests.{clash, le-or-lt}
 use Rattle.base.specs.Search.{every-cong, first-law}
 use Rattle.base.specs.Count.{absent-cong}
@@ -230,14 +230,6 @@ module _ (k m q p : ℕ) where
   unfolding put
   received-up s r = received-keeps s k m q p (λ t. t (up r)) (λ _ _ _ _. refl) (λ _ _. refl) (λ _ _. refl)
 
-  -- nor letters of other messages
-  pub received-letter : (s : State) (x j o : ℕ) → m ≢ x → received s k m q p (flight x j o) ≡ s (flight x j o)
-  unfolding put
-  received-letter s x j o d =
-      received-keeps s k m q p (λ t. t (flight x j o))
-      (λ t i z v. put-other t (flight m i z) (flight x j o) v (λ e. let y : m ≡ x = cc in d y)) (λ _ _. refl)
-      (λ _ _. refl)
-
   -- nor what tells whether another message, or at another process, is ready
   received-same : (s : State) (r x : ℕ) → Other r x → Same r x s (received s k m q p)
   received-same s r x o c y =
@@ -278,13 +270,6 @@ pub arrival-up : (s : State) (k m q p r : ℕ) → arrival s k m q p (up r) ≡ 
 unfolding arrival
 arrival-up s k m q p r = cascade-fixed p _ (up r) (a-life r) ∙ received-up k m q p s r
 
--- of other messages, it changes only the OKs of p
-pub arrival-letter : (s : State) (k m q p x j o : ℕ) → m ≢ x → (j ≢ 2) ⊎ (o ≢ p)
-    → arrival s k m q p (flight x j o) ≡ s (flight x j o)
-unfolding arrival
-arrival-letter s k m q p x j o d n =
-    cascade-fixed p _ (flight x j o) (a-letter x j o n) ∙ received-letter k m q p s x j o d
-
 -- after that of a letter in flight, p is quiescent, and the others are as they were
 pub arrival-quiescent : (s : State) (k m q p : ℕ) → Sound s → InFlight s k m q p → (r : ℕ)
     → (p ≢ r → Quiescent s r) → Quiescent (arrival s k m q p) r
@@ -299,11 +284,6 @@ arrival-quiescent s k m q p h a r others = go (ℕ-discrete p r)
         let z = received-sound s k m q p (a .kind) (a .message) (a .from) (a .to) (a .flies) h in
         subst (Quiescent (cascade t p)) d (cascade-quiescent t p (z .0) (z .1))
     go (no d) = cascade-others t p r d (received-others k m q p s r d (others d))
-
--- ---- what is known where an arrival was only that of a mark: no letter was sent, and nothing delivered
-abbrev pub MarkOnly : Bool → State → ℕ → ℕ → ℕ → ℕ → Type 0
-MarkOnly true s k m q p = arrival s k m q p ≡ mark (leave s k m q p) k m q p
-MarkOnly false s k m q p = Unit {0}
 
 -- ---- what a caller may know: of one process
 abbrev pub QuiescentIf : Bool → State → ℕ → Type 0

@@ -1,12 +1,12 @@
--- Laws of tests over a run: two runs side by side, and one test more of some that pass. Assumes nothing.
-use mathlib.Core.Path.{_≡_, refl, sym, ap, _∙_}
+-- Laws of tests over a run: two runs side by side, one test more of some that pass, and what is gathered by or. Assumes nothing.
+use mathlib.Core.Path.{_≡_, refl, sym, ap, ap₂, _∙_}
 use mathlib.Core.Bool.{Bool, true, false, not, _&&_, _||_}
 use Prim.Native.Nat.{ℕ, _+_, _-_, _<_}
 use native.Mathlib.Omega.{arith}
 use native.Mathlib.Decide.{ℕ-discrete}
 use lib.Bits.{bitOr, bitAnd, or-add-and, and-le-l, and-le-r}
-use lib.Dec.{ltb, eqb}
-use borrow.Author.Tests.{ltb-true, ltb-false, eq-eqb, ne-eqb}
+use lib.Dec.{ltb, leb, eqb}
+use borrow.Author.Tests.{ltb-true, ltb-false, eq-eqb, ne-eqb, eqb-true, le-leb, leb-true}
 use Rattle.definitions.specs.General.{every, some}
 use Rattle.base.specs.Tests.{both, both-l, both-r, both-i, same}
 use Rattle.base.specs.Search.{every-next, every-true, every-intro}
@@ -33,6 +33,17 @@ every-split n k f =
         ap f (sym z)
         ∙ every-true k (λ i. f (n + i)) (both-r (every n f) (every k (λ i. f (n + i))) e) (i - n)
         (omega arith)
+
+-- two tests of each are both of the tests
+pub every-both : (n : ℕ) (f g : ℕ → Bool) → every n (λ i. f i && g i) ≡ (every n f && every n g)
+every-both n f g =
+    same (every n (λ i. f i && g i)) (every n f && every n g)
+    (λ e. both-i (every n f) (every n g)
+    (every-intro n f (λ i l. both-l (f i) (g i) (every-true n (λ i. f i && g i) e i l)))
+    (every-intro n g (λ i l. both-r (f i) (g i) (every-true n (λ i. f i && g i) e i l))))
+    (λ e. every-intro n (λ i. f i && g i) (λ i l. both-i (f i) (g i)
+    (every-true n f (both-l (every n f) (every n g) e) i l)
+    (every-true n g (both-r (every n f) (every n g) e) i l)))
 
 -- one of 0, .., i passes
 pub some-next : (f : ℕ → Bool) (i : ℕ) → some (i + 1) f ≡ (some i f || f i)
@@ -61,3 +72,15 @@ or-zero x y = go (ℕ-discrete x 0) (ℕ-discrete y 0)
     go d (no q) = rw (ne-eqb y 0 q) (ne-eqb (bitOr x y) 0 (λ e. omega (arith, sum, and-le-l x y)))
     go (no p) (yes q) =
         rw (eq-eqb y 0 q, ne-eqb x 0 p) (ne-eqb (bitOr x y) 0 (λ e. omega (arith, sum, and-le-r x y)))
+
+-- ---- a loop that gathers by or: nothing gathered exactly if every test passes
+pub gathers-or : (f : ℕ → Bool) (i any x : ℕ) → eqb any 0 ≡ every i f → eqb x 0 ≡ f i
+    → eqb (bitOr any x) 0 ≡ every (i + 1) f
+gathers-or f i any x e h = or-zero any x ∙ ap₂ both h e ∙ sym (every-next f i)
+
+-- no excess over a limit
+pub excess-none : (x limit : ℕ) → eqb (x - limit) 0 ≡ leb x limit
+excess-none x limit =
+    same (eqb (x - limit) 0) (leb x limit)
+    (λ e. le-leb x limit (let z = eqb-true (x - limit) 0 e in omega arith))
+    (λ e. eq-eqb (x - limit) 0 (let z = leb-true x limit e in omega arith))

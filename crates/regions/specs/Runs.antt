@@ -6,7 +6,7 @@ use native.Mathlib.Omega.{arith}
 use Rattle.definitions.specs.General.{every}
 use Rattle.definitions.specs.World.{Cell, State, addr, cell-at}
 use Rattle.definitions.specs.Sound.{fine}
-use Rattle.base.specs.Tests.{both, both-l, both-r, both-i, same}
+use Rattle.base.specs.Tests.{both, both-i}
 use Rattle.base.specs.Search.{every-true, every-intro, every-cong}
 use Rattle.world.specs.Layout.{Within, cell-at-addr}
 use Rattle.ranges.specs.Laws.{every-split}
@@ -40,17 +40,6 @@ run-one s c h = go (fine s c) ∙ run-of s (addr c) 1 (λ _. c) (λ _. fine s c)
     go : (b : Bool) → b ≡ elim b [ true ↦ true | false ↦ false ]
     go true = refl
     go false = refl
-
--- two tests of each are both of the tests
-pub every-both : (n : ℕ) (f g : ℕ → Bool) → every n (λ i. f i && g i) ≡ (every n f && every n g)
-every-both n f g =
-    same (every n (λ i. f i && g i)) (every n f && every n g)
-    (λ e. both-i (every n f) (every n g)
-    (every-intro n f (λ i l. both-l (f i) (g i) (every-true n (λ i. f i && g i) e i l)))
-    (every-intro n g (λ i l. both-r (f i) (g i) (every-true n (λ i. f i && g i) e i l))))
-    (λ e. every-intro n (λ i. f i && g i) (λ i l. both-i (f i) (g i)
-    (every-true n f (both-l (every n f) (every n g) e) i l)
-    (every-true n g (both-r (every n f) (every n g) e) i l)))
 
 -- ---- as facts: two runs side by side, a part of a run, a cell of it
 pub run-join : (s : State) (a n k b t : ℕ) → b ≡ a + n → t ≡ n + k → fine-run s a n ≡ true → fine-run s b k

@@ -1,22 +1,42 @@
 // Tests over the regions of a world whose words rest on other words: held flags and marks, letters, next.
 ghost use mathlib.Core.Path.{_≡_};
-ghost use Prim.Native.Nat.{_+_, _≤_, _<_};
+ghost use Prim.Native.Nat.{_+_, _-_, _*_, _≤_, _<_};
+ghost use lib.Bits.{bitAnd};
+ghost use lib.Dec.{eqb};
 ghost use lib.ListN.{length};
+ghost use Rattle.definitions.specs.General.{pick, bit};
 ghost use Rattle.definitions.specs.World.{view};
 ghost use Rattle.limits.specs.Addressees.{Addressees};
 ghost use Rattle.regions.specs.Rows.{Block, row-ok, rows-fine};
 ghost use Rattle.regions.specs.Letters.{letter-ok, letters-at};
-ghost use Rattle.regions.specs.Nexts.{Countable, Counted, Small, next-of, nexts-at};
+ghost use Rattle.regions.specs.Nexts.{Small, next-of, nexts-at};
 
-// Whether process p may have this held flag and these marks for a message with these addressees.
-fn row(held: u16, marks: u16, to: u16, p: usize) -> bool
+// 1 where the mask has p, else 0.
+fn flag(mask: u16, p: usize) -> u16
     requires { ⌜ p < 16 ⌝ }
-    ensures { λ r. ⌜ r ≡ row-ok held marks to p ⌝ }
+    ensures { λ r. ⌜ r ≡ pick (bit mask p) 1 0 ⌝ }
 {
-    if masks::test(to, p) {
-        return (held <= 1) & (marks & to == marks);
+    if masks::test(mask, p) {
+        return 1;
     }
-    (held == 0) & (marks == 0)
+    0
+}
+
+// What of x the other mask lacks, if it counts (1); else all of x (0).
+fn lacking(x: u16, mask: u16, counts: u16) -> u16
+    requires { ⌜ counts ≤ 1 ⌝ }
+    ensures { λ r. ⌜ r ≡ x - bitAnd x (mask * counts) ⌝ }
+{
+    x - (x & (mask * counts))
+}
+
+// 0 where process p may have this held flag and these marks for a message with these addressees.
+fn row(held: u16, marks: u16, to: u16, p: usize) -> u16
+    requires { ⌜ p < 16 ⌝ }
+    ensures { λ r. ⌜ eqb r 0 ≡ row-ok held marks to p ⌝ }
+{
+    let mine = flag(to, p);
+    lacking(marks, to, mine) | ranges::excess(held, mine)
 }
 
 // Whether the held flags and the marks of process p are only for messages addressed to it, the marks only from
@@ -27,11 +47,11 @@ pub fn rows(w: &[u16], p: usize, addressees: &[u16]) -> bool
     ensures { λ r. ⌜ r ≡ rows-fine (view (now (w .entry))) p ⌝ }
 {
     let at = cells::PROCESSES + p * cells::PROCESS;
-    let mut ok = true;
+    let mut any: u16 = 0;
     let mut m: usize = 0;
     while m < 64 {
-        ok = ok
-            & row(
+        any = any
+            | row(
                 w[at + cells::HELD + m],
                 w[at + cells::MARKS + m],
                 addressees[m],
@@ -39,7 +59,7 @@ pub fn rows(w: &[u16], p: usize, addressees: &[u16]) -> bool
             );
         m += 1;
     }
-    ok
+    any == 0
 }
 
 // Whether letters from q may be in flight to these receivers.
@@ -65,22 +85,6 @@ pub fn letters(w: &[u16], a: usize, origins: u16, to: u16) -> bool
         q += 1;
     }
     ok
-}
-
-// How many of the n items of a log, from a on, are of each sender; the items are below count.
-pub fn senders(w: &[u16], a: usize, n: usize, count: usize) -> [u16; 16]
-    requires { ⌜ Countable (now w) a n count ⌝ }
-    ensures { λ r. ⌜ Counted (now (w .entry)) a n r ⌝ }
-{
-    let mut t: [u16; 16] = [0; 16];
-    let mut i: usize = 0;
-    while i < n {
-        let m = cells::word(w, a + i);
-        let q = cells::word(w, cells::MESSAGES + m * cells::MESSAGE);
-        t[q] = t[q] + 1;
-        i += 1;
-    }
-    t
 }
 
 // What next[q] must be where x messages of q are in the log.

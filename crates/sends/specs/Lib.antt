@@ -1,2 +1,4 @@
-pub mod Among
 pub mod Sends
+pub mod Ready
+pub mod Marks
+pub mod Oks

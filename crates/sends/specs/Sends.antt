@@ -9,13 +9,12 @@ use native.Mathlib.Omega.{arith}
 use lib.Dec.{eqb}
 use borrow.Author.Tests.{eq-eqb, ne-eqb}
 use lib.ListN.{set}
-use Rattle.definitions.specs.General.{bit, with, mask-of, pick, some}
+use Rattle.definitions.specs.General.{bit, with, mask-of, pick}
 use Rattle.definitions.specs.World.{size, group, next, held, sender, mask, number, flight, addr, State, put, encode, view, addressed}
 use Rattle.definitions.specs.Machine.{addressees, in-turn, due, send-ok, send-oks}
 use Rattle.base.specs.Bits.{mask-of-cong}
-use Rattle.base.specs.Tests.{both, either}
+use Rattle.base.specs.Tests.{both}
 use Rattle.world.specs.Layout.{Reads, Changes, get-encode, set-encode}
-use Rattle.ranges.specs.Laws.{some-none, some-next}
 use Rattle.bounds.specs.Bounds.{Bounds, bounds-state}
 
 -- s with letters of kind k for m from p in flight to all addressees
@@ -83,19 +82,6 @@ due-not-held s p q m ex n =
     sym (ap (λ (b : Bool). both (both b (eqb (s (sender m)) q)) (in-turn s p m))
     (ne-eqb (s (held p m)) 1 (λ z. n (ex ∙ z))))
 
-pub due-not-from : (s : State) (p q m : ℕ) {y : ℕ} → y ≡ s (sender m) → (y ≡ q → ⊥) → false ≡ due s p q m
-unfolding due
-due-not-from s p q m ey n =
-    sym (ap (λ (b : Bool). both (both is-held b) (in-turn s p m)) (ne-eqb (s (sender m)) q (λ z. n (ey ∙ z)))
-    ∙ go is-held)
-  where
-    is-held : Bool
-    is-held = eqb (s (held p m)) 1
-
-    go : (a : Bool) → both (both a false) (in-turn s p m) ≡ false
-    go true = refl
-    go false = refl
-
 pub due-is : (s : State) (p q m : ℕ) {x y : ℕ} {r : Bool} → x ≡ s (held p m) → x ≡ 1 → y ≡ s (sender m)
     → y ≡ q
     → r ≡ in-turn s p m → r ≡ due s p q m
@@ -141,11 +127,6 @@ pub bounds-oks : (p q k : ℕ) (s : State) → Bounds s → Bounds (send-oks s p
 unfolding put
 bounds-oks p q k s h = oks-keep p q (λ t. Bounds t) (λ t m z. z) k s h
 
--- they change nothing that tells whether one is owed
-oks-due : (p q k x : ℕ) (s : State) → due (send-oks s p q k) p q x ≡ due s p q x
-unfolding due put
-oks-due p q k x s = oks-keep p q (λ t. due t p q x ≡ due s p q x) (λ t m z. z) k s refl
-
 -- ---- the loop over the messages
 pub oks-start : (p q : ℕ) (s : State) → send-oks s p q 0 ≡ s
 unfolding send-oks
@@ -154,11 +135,3 @@ oks-start p q s = refl
 pub oks-more : (p q k : ℕ) (s : State) → send-ok (send-oks s p q k) p q k ≡ send-oks s p q (k + 1)
 unfolding send-oks
 oks-more p q k s = sym (ap (send-oks s p q) (add-one k))
-
--- whether one of the first k was owed
-pub owed-start : (p q : ℕ) (s : State) → false ≡ some 0 (due s p q)
-owed-start p q s = sym (some-none (due s p q))
-
-pub owed-more : (p q k : ℕ) (s : State) {a b : Bool} → a ≡ some k (due s p q) → b ≡ due (send-oks s p q k) p q k
-    → either a b ≡ some (k + 1) (due s p q)
-owed-more p q k s ea eb = ap₂ either ea (eb ∙ oks-due p q k k s) ∙ sym (some-next (due s p q) k)

@@ -2,13 +2,11 @@
 use mathlib.Core.Path.{_≡_, sym, ap, _∙_}
 use mathlib.Core.Bool.{Bool, true, false, not}
 use mathlib.Core.Logic.{_⊎_, inl, inr}
-use Prim.Native.Nat.{ℕ, _+_, _*_, _%_, _^_, _<_, _≤_}
+use Prim.Native.Nat.{ℕ, _+_, _<_, _≤_}
 use native.Mathlib.Numerals.{add-one}
-use native.Mathlib.Nat.{one-mul}
 use native.Mathlib.Omega.{arith}
 use native.Mathlib.Decide.{ℕ-discrete}
-use lib.Pow.{shl-exact}
-use lib.Dec.{ltb, eqb, lit<}
+use lib.Dec.{ltb, eqb}
 use borrow.Author.Tests.{eq-eqb, ne-eqb, lt-ltb, le-ltb}
 use Rattle.definitions.specs.General.{pick, every, absent, bit, with}
 use Rattle.base.specs.Tests.{le-or-lt}
@@ -44,7 +42,3 @@ members-more set n x log h e m l = rw (add-one n) (go (ℕ-discrete x m))
         kept (inl a) = ap (λ (b : Bool). bit (pick b (with set x) set) m) (le-ltb x 64 a)
         kept (inr a) =
             ap (λ (b : Bool). bit (pick b (with set x) set) m) (lt-ltb x 64 a) ∙ with-other set x m d
-
--- one bit of 64
-pub one-shl : (p : ℕ) → p < 64 → (1 * 2 ^ p) % 2 ^ 64 ≡ 2 ^ p
-one-shl p h = shl-exact {a = 1} 1 p 64 (lit< tt) (omega arith) ∙ one-mul (2 ^ p)

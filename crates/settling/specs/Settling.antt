@@ -1,6 +1,6 @@
 -- Settle as its loop goes: a letter more arrives, or there is none, or the budget is used up. What holds of a sound
 -- world holds of it after each arrival. Assumes nothing.
-use mathlib.Core.Path.{_≡_, refl, sym, ap, subst, _∙_}
+use mathlib.Core.Path.{_≡_, refl, sym, ap, _∙_}
 use mathlib.Core.Bool.{Bool, true, false}
 use mathlib.Core.Logic.{_⊎_, inl, inr}
 use mathlib.Core.List.{List}
@@ -14,13 +14,13 @@ use Rattle.definitions.specs.Settle.{Choice, letter, nothing, done, stopped, Se
 use Rattle.base.specs.Tests.{clash}
 use Rattle.base.specs.Bits.{bit-zero, with-cases}
 use Rattle.world.specs.SoundLaws.{size-high, count-high, sound-words}
-use Rattle.world.specs.Layout.{length-encode, get-encode}
+use Rattle.world.specs.Layout.{length-encode}
 use Rattle.world.specs.StepLaws.{moves-taken, lowest-moves}
 use Rattle.keeps.specs.Keeps.{SoundWords, step-sound}
-use Rattle.quiescence.specs.Quiescent.{MarkOnly, Quiescent, QuiescentIf, arrival-quiescent}
+use Rattle.quiescence.specs.Quiescent.{Quiescent, QuiescentIf, arrival-quiescent}
 use Rattle.bounds.specs.Bounds.{sound-bounds}
-use Rattle.ready.specs.Ready.{quiescent-words}
-use Rattle.letters.specs.Places.{Passed, next-place, start-passed, still-up, passed-on}
+use Rattle.arrivals.specs.Arrival.{quiescent-words}
+use Rattle.letters.specs.Places.{Passed, start-passed}
 use Rattle.letters.specs.declared.Place.{Place}
 
 -- The choice and the arrival, on words.
@@ -135,23 +135,3 @@ going-first w live h e = record {
   rested = rested-none (view w);
   passed = start-passed (view w);
 }
-
--- through the arrival of the lowest letter
-pub going-on : {w u : List ℕ} {k m q p live mask mask′ : ℕ} {at at′ : Place} (b : Bool) → Going w live mask at
-    → lowest (view w) ≡ letter k m q p → u ≡ arrive-words w k m q p → MarkOnly b (view w) k m q p
-    → mask′ ≡ with mask p → at′ ≡ next-place (view u) live (record { message = m; kind = k; origin = q }) p b
-    → Going u live mask′ at′
-going-on {w} {u} {k} {m} {q} {p} {live} {mask} {mask′} {at} {at′} b g e eu only em ea =
-    let t : State = arrival (view w) k m q p in
-    let v : List ℕ = arrive-words w k m q p in
-    let here : Place = record { message = m; kind = k; origin = q } in
-    let on : Going v live (with mask p) (next-place (view v) live here p b) =
-    record {
-      sound = arrived-sound w k m q p (g .sound) e;
-      ups = still-up (view w) (view v) k m q p live (g .sound .reads) e (g .ups) (get-encode t);
-      rested = rested-on w k m q p mask (g .sound) e (g .rested);
-      passed = passed-on (view w) (view v) k m q p live (g .sound .reads) e (g .ups) (get-encode t) b only;
-    } in
-    subst (Going u live mask′) (sym ea)
-    (subst (λ (x : ℕ). Going u live x (next-place (view u) live here p b)) (sym em)
-    (subst (λ (x : List ℕ). Going x live (with mask p) (next-place (view x) live here p b)) (sym eu) on))

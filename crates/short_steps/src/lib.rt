@@ -5,6 +5,7 @@ ghost use lib.ListN.{length};
 ghost use Rattle.definitions.specs.World.{view, encode};
 ghost use Rattle.definitions.specs.Machine.{leave, trust-set, crash};
 ghost use Rattle.bounds.specs.Bounds.{Bounds};
+ghost use Rattle.index.specs.Index.{Index, Logs};
 
 // The letter of kind k for message m from q to p is lost.
 pub fn lose(w: &mut [u16], k: usize, m: usize, q: usize, p: usize)
@@ -15,12 +16,14 @@ pub fn lose(w: &mut [u16], k: usize, m: usize, q: usize, p: usize)
 }
 
 // Process p trusts the processes of a mask from now on.
-pub fn replace_trust(w: &mut [u16], p: usize, set: u16)
-    requires { ⌜ (length (now w) ≡ 20480) × (p < 16) × Bounds (view (now w)) ⌝ }
-    ensures { λ _. ⌜ now (w .exit) ≡ encode (trust-set (view (now (w .entry))) p set) ⌝ }
+pub fn replace_trust(w: &mut [u16], x: &mut [u64], p: usize, set: u16)
+    requires { ⌜ (length (now w) ≡ 20480) × (p < 16) × Bounds (view (now w)) × Index (view (now w)) (now x) × Logs (view (now w)) p ⌝ }
+    ensures words { λ _. ⌜ now (w .exit) ≡ encode (trust-set (view (now (w .entry))) p set) ⌝ }
+    ensures index { λ _. ⌜ Index (view (now (w .exit))) (now (x .exit)) ⌝ }
 {
     w[cells::PROCESSES + p * cells::PROCESS + cells::TRUST] = set;
-    cascade::cascade_all(w, p);
+    let ready = cascade::ready_set(w, x, p);
+    cascade::cascade(w, x, p, ready);
 }
 
 // Process p crashes.

@@ -1,2 +1,3 @@
 pub mod Absent
 pub mod Whole
+pub mod Indexed

@@ -6,11 +6,11 @@ use mathlib.Core.List.{List}
 use Prim.Native.Nat.{ℕ, zero, suc, _+_, _-_, _*_, _≤_, _<_}
 use native.Mathlib.Omega.{arith}
 use native.Mathlib.Nat.{suc-mul, zero-mul}
-use lib.Dec.{leb, eqb}
+use lib.Dec.{ltb, leb, eqb}
 use lib.ListN.{length}
 use borrow.Author.Tests.{leb-true, le-leb, eq-eqb, eqb-true}
 use Rattle.definitions.specs.General.{pick, every}
-use Rattle.definitions.specs.World.{State, size, count, rule, group, sender, mask, cell-at, view}
+use Rattle.definitions.specs.World.{State, size, count, rule, group, sender, mask, cell-at, view, has-group}
 use Rattle.definitions.specs.Sound.{fit, fine, sound}
 use Rattle.base.specs.Tests.{both, both-l, both-r, both-i, and-swap, clash}
 use Rattle.base.specs.Search.{every-true, every-intro, every-cong}
@@ -19,7 +19,7 @@ use Rattle.ranges.specs.Ranges.{zeros-at}
 use Rattle.heads.specs.Known.{Sized, Grouped, Placed, Headed}
 use Rattle.heads.specs.Groups.{GroupTest}
 use Rattle.heads.specs.Messages.{heads-fine}
-use Rattle.limits.specs.Limits.{Limits, limit-at, used-exists}
+use Rattle.limits.specs.Limits.{Limits}
 use Rattle.limits.specs.Addressees.{Addressees}
 use Rattle.regions.specs.Runs.{fine-run, run-one, run-split, run-join, run-cut}
 use Rattle.blocks.specs.Known.{Ready}
@@ -123,18 +123,27 @@ pub ready : (w : List ℕ) (n messages groups c : ℕ) (limits addressees : List
     → Grouped (view w) groups → Placed (view w) → Headed (view w) → c ≡ view w count
     → Limits n groups c limits
     → Addressees (view w) addressees → Ready w n messages limits addressees
-unfolding limit-at
 ready w n messages groups c limits addressees z g p h ec l a = record {
   sized = z;
   placed = p;
   headed = h;
   bounds = record {
     long = l .long;
-    at = λ i k. l .at i k
-        ∙ ap₂ (λ (b : Bool) (x : ℕ). pick b x 0) (used-exists (view w) n groups i (z .size-is) g) ec;
+    pairs = λ x q k m. l .pairs x q k m ∙ ap₂ (λ (b : Bool) (y : ℕ). pick (b && ltb q n) y 0) (g .exist x) ec
+        ∙ ap (λ (y : ℕ). pick (has-group (view w) x && ltb q y) (view w count) 0) (z .size-is);
+    alone = λ x k. l .alone x k ∙ ap₂ (λ (b : Bool) (y : ℕ). pick b y 0) (g .exist x) ec;
+    processes = λ q k. l .processes q k ∙ ap₂ (λ (x y : ℕ). pick (ltb q x) y 0) (z .size-is) ec;
+    items = l .items;
+    past = l .past;
   };
   to = a;
 }
+
+-- ---- what is past the blocks of the processes
+unfoldable pub beyond-fine : List ℕ → ℕ → ℕ → Bool
+beyond-fine w n messages =
+    (zeros-at w (3 + n * 429) (6864 - n * 429) && messages-fine (view w) messages)
+    && zeros-at w (6867 + messages * 187) (13613 - messages * 187)
 
 -- ---- the whole
 module _ (w : List ℕ) (n messages : ℕ) (z : Sized w n messages) where
@@ -149,7 +158,7 @@ module _ (w : List ℕ) (n messages : ℕ) (z : Sized w n messages) where
       (sym (run-one (view w) count tt) ∙ le-leb (view w count) 64 (omega (arith, z .count-is, z .few)))
       (sym (run-one (view w) rule tt) ∙ eq-eqb (view w rule) 0 (z .spare)))
 
-  pub whole-law : (((processes-fine (view w) n && zeros-at w (3 + n * 429) (6864 - n * 429))
+  whole-law : (((processes-fine (view w) n && zeros-at w (3 + n * 429) (6864 - n * 429))
       && messages-fine (view w) messages)
       && zeros-at w (6867 + messages * 187) (13613 - messages * 187)) ≡ sound (view w)
   unfolding processes-fine messages-fine
@@ -170,3 +179,14 @@ module _ (w : List ℕ) (n messages : ℕ) (z : Sized w n messages) where
     where
       s : State
       s = view w
+
+  pub beyond-law : (processes-fine (view w) n && beyond-fine w n messages) ≡ sound (view w)
+  unfolding beyond-fine
+  beyond-law =
+      assoc (processes-fine (view w) n) (zeros-at w (3 + n * 429) (6864 - n * 429)) (messages-fine (view w) messages)
+      (zeros-at w (6867 + messages * 187) (13613 - messages * 187))
+      ∙ whole-law
+    where
+      assoc : (a b c d : Bool) → (a && ((b && c) && d)) ≡ (((a && b) && c) && d)
+      assoc true b c d = refl
+      assoc false b c d = refl

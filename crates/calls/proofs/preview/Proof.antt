@@ -17,8 +17,11 @@ returns c =
     not-shown (a .w .now) (a .bytes .now) (a .second .now) 1 (λ z. omega arith)
     (sym (preview-unjudged (a .w .now) (a .bytes .now) (a .second .now) (c .if1 .taken)))
 
-tested-requires : tie.Need-tested-requires
-tested-requires c κs = search needs
+slice-aggregate-indexed : tie.Need-slice-aggregate-indexed
+slice-aggregate-indexed c = search needs
+
+indexed-requires : tie.Need-indexed-requires
+indexed-requires c κs = search needs
 
 enum-known-r : tie.Need-enum-known-r
 enum-known-r c = search needs
@@ -26,22 +29,29 @@ enum-known-r c = search needs
 enum-told : tie.Need-enum-told
 enum-told c = search needs
 
+slice-aggregate-preview : tie.Need-slice-aggregate-preview
+slice-aggregate-preview c = search needs
+
 preview-requires : tie.Need-preview-requires
 preview-requires c κs =
-    let t = c .before in
-    let a = t .before .before .before .before .before .before .before .args in
-    let h = taken-sound-words (a .w .now) (taken-zero (t .enum-told .given .1) (t .before .before .tested .ensures)) in
-    (h .long, t .before .before .before .if1 .left, h .reads)
+    let e = c .before .before in
+    let t = e .before .before .before in
+    let f = t .before .before in
+    let a = f .before .before .before .before .args in
+    let z = taken-zero (e .enum-told .given .1) (t .indexed .ensures .0) in
+    let h = taken-sound-words (a .w .now) z in
+    (h .long, f .if1 .left, h .reads, t .indexed .ensures .1 z)
 
 returns-2 : tie.Need-returns-2
 returns-2 c =
-    let t = c .before .before .before in
-    let a = t .before .before .before .before .before .args in
+    let t = c .before .before .before .before in
+    let i = t .before .before in
+    let a = i .before .before .before .before .args in
     let r = c .before .r .given .0 .0 in
     not-shown (a .w .now) (a .bytes .now) (a .second .now) (refusal-number r) (refusal-some r)
     (step-refused (a .w .now) (a .bytes .now) (refusal-number r) (refusal-some r)
-    (refused-number (c .before .r .given .1) (t .tested .ensures)) .0
-    ∙ sym (preview-judged (a .w .now) (a .bytes .now) (a .second .now) (t .before .if1 .left)))
+    (refused-number (c .before .r .given .1) (t .indexed .ensures .0)) .0
+    ∙ sym (preview-judged (a .w .now) (a .bytes .now) (a .second .now) (i .if1 .left)))
 
 same-length : tie.Need-same-length
 same-length c = search needs
@@ -54,9 +64,11 @@ preview-spec =
     tie.close
     (tie.spec
     returns
-    tested-requires
+    slice-aggregate-indexed
+    indexed-requires
     enum-known-r
     enum-told
+    slice-aggregate-preview
     preview-requires
     returns-2
     same-length

@@ -1,14 +1,18 @@
 -- `cascade::fifo_one` meets its contract. Assumes nothing.
-use mathlib.Core.Path.{_≡_, sym}
+use mathlib.Core.Path.{_≡_, sym, _∙_}
 use Prim.Native.Nat.{_<_}
 use native.Mathlib.Omega.{arith}
-use borrow.Author.Needs.{needs}
-use Rattle.definitions.specs.World.{State, encode, view, next}
-use Rattle.definitions.specs.Machine.{appended, causal-all}
-use Rattle.world.specs.Layout.{encode-view, reads-cell}
 use Rattle.bounds.specs.Bounds.{Bounds, bounds-words}
-use Rattle.cascade.specs.Cascade.{fifo-law, bounds-appended, bounds-delivered, bounds-next, next-room}
-use Rattle.cascade.specs.Turn.{owes-law}
+use Rattle.cascade.specs.Cascade.{fifo-law, bounds-delivered, next-room, bounds-next}
+use Rattle.index.specs.Index.{Index, Logs, index-words, index-state, logs-words, logs-state, new-room}
+use Rattle.index.specs.Changes.{index-next}
+use Rattle.sends.specs.Oks.{oks-index}
+use Rattle.sends.specs.Sends.{bounds-oks}
+use Rattle.world.specs.Layout.{encode-view, reads-cell}
+use Rattle.definitions.specs.Machine.{appended, causal-all, raised-next, send-oks}
+use Rattle.definitions.specs.World.{State, view, encode, fifo-length, count, next, sender}
+use Rattle.cascade.specs.Turn.{turn-told, oks-logs, next-logs}
+use borrow.Author.Needs.{needs}
 use Rattle.cascade.proofs.fifo_one.Statement.{statement}
 use Rattle.cascade.proofs.fifo_one.Tie as tie
 
@@ -21,97 +25,148 @@ add-word c = search needs
 word-requires : tie.Need-word-requires
 word-requires c κs = search needs
 
-push-requires : tie.Need-push-requires
-push-requires c κs =
-    let b = c .before .before .before .before in
-    (b .pre .0, b .pre .1, b .pre .2, omega (arith, b .pre .4, b .pre .3 .counts))
-
--- the sender is a process
-q16 : (c : tie.After-word) → c .word .result < 16
-q16 c =
-    let b = c .before .before .before in
-    omega (arith, c .word .ensures, b .pre .3 .senders (b .args .m) (b .pre .2))
-
--- the states on the way, and their bounds
-state1 : (c : tie.After-push)
-    → let a = c .before .before .before .before .before .args in
-    c .push .last .0 ≡ encode (appended (view (a .w .now)) (a .p) (a .m))
-unfolding appended
-state1 c =
-    let b = c .before .before .before .before .before in
-    c .push .ensures .1 (view (b .args .w .now)) (sym (encode-view (b .args .w .now) (b .pre .0)))
-
-bounds1 : (c : tie.After-push) → Bounds (view (c .push .last .0))
-bounds1 c =
-    let b = c .before .before .before .before .before in
-    bounds-words (c .push .last .0) _ (state1 c)
-    (bounds-appended (view (b .args .w .now)) (b .args .p) (b .args .m) (b .pre .2) (b .pre .4) (b .pre .3))
-
-state2 : (c : tie.After-causal-all)
-    → let a = c .before .before .before .before .before .before .before .before .before .args in
-    c .causal-all .last .0 ≡ encode (causal-all (appended (view (a .w .now)) (a .p) (a .m)) (a .p))
-state2 c = c .causal-all .ensures .1 _ (state1 (c .before .before .before .before))
-
-bounds3 : (c : tie.After-raise-next) → Bounds (view (c .raise-next .last .0))
-bounds3 c =
-    let o = c .before .before .before .before .before .before .before .before in
-    let b = o .before .before .before .before .before in
-    bounds-words (c .raise-next .last .0) _
-    (c .raise-next .ensures .1 _ (state2 (c .before .before .before .before)))
-    (bounds-next (b .args .p) (view (b .args .w .now)) (b .args .m) (b .pre .3) (b .pre .1) (b .pre .2)
-    (b .pre .4) _ (q16 (o .before .before)))
+append-requires : tie.Need-append-requires
+append-requires c κs = search needs
 
 causal-all-requires : tie.Need-causal-all-requires
-causal-all-requires c κs =
-    let o = c .before .before .before in
-    (o .push .ensures .0, o .before .before .before .before .before .pre .1, bounds1 o)
+causal-all-requires c κs = search needs
+
+-- what the start lends
+low : (c : tie.Start) → c .args .m < 64
+low c = omega (arith, c .pre .2, c .pre .3 .counts)
+
+room : (c : tie.Start) → view (c .args .w .now) (fifo-length (c .args .p)) < view (c .args .w .now) count
+room c = new-room (view (c .args .w .now)) (c .args .p) (c .args .m) (c .pre .5) (c .pre .2) (c .pre .6)
+
+delivered-bounds : (c : tie.Start)
+    → Bounds (causal-all (appended (view (c .args .w .now)) (c .args .p) (c .args .m)) (c .args .p))
+delivered-bounds c =
+    bounds-delivered (c .args .p) (view (c .args .w .now)) (c .args .m) (c .pre .3) (c .pre .1) (low c) (room c)
+
+q16 : (c : tie.After-word) → c .word .result < 16
+q16 c =
+    let b = c .before .before .before .before in
+    omega (arith, c .word .ensures, b .pre .3 .senders (b .args .m) (low b))
+
+-- the start, from the causal deliveries
+abbrev begin : tie.After-causal-all → tie.Start
+begin c = c .before .before .before .before .before .before .before .before .before .before .before .before .before .before
+
+-- the states on the way
+state2 : (c : tie.After-causal-all)
+    → let a = begin c .args in
+    c .causal-all .last .0 ≡ encode (causal-all (appended (view (a .w .now)) (a .p) (a .m)) (a .p))
+state2 c =
+    let o = c .before .before .before .before .before .before .before in
+    let b = begin c in
+    c .causal-all .ensures .0 .1 _ (o .append .ensures .0 .1 (view (b .args .w .now)) (sym (encode-view (b .args .w .now) (b .pre .0))))
+
+abbrev sent-by : tie.After-causal-all → tie.After-word
+sent-by c = c .before .before .before .before .before .before .before .before .before .before
 
 raise-next-requires : tie.Need-raise-next-requires
 raise-next-requires c κs =
-    let o = c .before .before .before in
-    let b = o .before .before .before .before .before .before .before .before .before in
-    let q = o .before .before .before .before .before .before .word .result in
-    let h = q16 (o .before .before .before .before .before .before) in
-    let s : State = view (b .args .w .now) in
-    let t : State = causal-all (appended s (b .args .p) (b .args .m)) (b .args .p) in
-    let e = reads-cell (o .causal-all .last .0) (next (b .args .p) q) (omega (arith, h, b .pre .1)) t
-    (state2 o) in (
-      o .causal-all .ensures .0,
+    let k = c .before .before .before .before .before in
+    let b = begin k in
+    let v = view (b .args .w .now) in
+    let h = delivered-bounds b in
+    let hq = q16 (k .before .before .before .before .before .before .before .before .before .before) in
+    let q = k .before .before .before .before .before .before .before .before .before .before .word .result in (
+      k .causal-all .ensures .0 .0,
       b .pre .1,
-      h,
+      hq,
       omega (
         arith,
-        e,
-        next-room (b .args .p) s (b .args .m) (b .pre .3) (b .pre .1) (b .pre .2) (b .pre .4) q h,
-        bounds-delivered (b .args .p) s (b .args .m) (b .pre .3) (b .pre .1) (b .pre .2)
-            (b .pre .4) .fifo-lengths (b .args .p) (b .pre .1),
-        bounds-delivered (b .args .p) s (b .args .m)
-            (b .pre .3) (b .pre .1) (b .pre .2) (b .pre .4) .counts,
+        reads-cell (k .causal-all .last .0) (next (b .args .p) q) (b .pre .1, hq) _ (state2 k),
+        next-room (b .args .p) v (b .args .m) (b .pre .3) (b .pre .1) (low b) (room b) q hq,
+        h .fifo-lengths (b .args .p) (b .pre .1),
+        h .counts,
       ),
     )
 
+-- and after next is raised
+abbrev delivered-at : tie.After-raise-next → tie.After-causal-all
+delivered-at c = c .before .before .before .before .before .before
+
+abbrev raised : tie.After-raise-next → State
+raised c =
+    let a = begin (delivered-at c) .args in
+    raised-next (causal-all (appended (view (a .w .now)) (a .p) (a .m)) (a .p)) (a .p) (sent-by (delivered-at c) .word .result)
+
+state3 : (c : tie.After-raise-next) → c .raise-next .last .0 ≡ encode (raised c)
+state3 c = c .raise-next .ensures .1 _ (state2 (delivered-at c))
+
+raised-bounds : (c : tie.After-raise-next) → Bounds (raised c)
+raised-bounds c =
+    let k = delivered-at c in
+    let b = begin k in
+    bounds-next (b .args .p) (view (b .args .w .now)) (b .args .m) (b .pre .3) (b .pre .1) (low b) (room b)
+    (sent-by k .word .result) (q16 (sent-by k))
+
+bounds3 : (c : tie.After-raise-next) → Bounds (view (c .raise-next .last .0))
+bounds3 c = bounds-words (c .raise-next .last .0) _ (state3 c) (raised-bounds c)
+
+raised-index : (c : tie.After-raise-next) → Index (raised c) (delivered-at c .causal-all .last .1 .0)
+raised-index c =
+    let k = delivered-at c in
+    let b = begin k in
+    index-next _ _ (index-state (k .causal-all .last .0) _ (state2 k)
+    (bounds-words (k .causal-all .last .0) _ (state2 k) (delivered-bounds b)) (k .causal-all .ensures .1 .0))
+    (b .args .p) (sent-by k .word .result)
+
+index3 : (c : tie.After-raise-next) → Index (view (c .raise-next .last .0)) (delivered-at c .causal-all .last .1 .0)
+index3 c = index-words (c .raise-next .last .0) _ (state3 c) (raised-bounds c) (raised-index c)
+
+raised-logs : (c : tie.After-raise-next) → Logs (raised c) (begin (delivered-at c) .args .p)
+raised-logs c =
+    let k = delivered-at c in
+    let b = begin k in
+    next-logs (b .args .p) (sent-by k .word .result) _ (logs-state (k .causal-all .last .0) _ (state2 k)
+    (bounds-words (k .causal-all .last .0) _ (state2 k) (delivered-bounds b)) (b .args .p) (b .pre .1)
+    (k .causal-all .ensures .1 .1))
+
 send-oks-requires : tie.Need-send-oks-requires
 send-oks-requires c κs =
-    let o = c .before .before .before in
-    (o .raise-next .ensures .0, o .before .before .before .before .before .before .before .before .before .before .before .before .before .pre .1, bounds3 o)
+    let n = c .before .before .before .before in
+    let k = n .before .before .before .before .before .before in
+    let b = begin k in
+    (n .raise-next .ensures .0, b .pre .1, q16 (sent-by k), bounds3 n, index3 n)
 
 same-length : tie.Need-same-length
 same-length c = search needs
 
+same-length-2 : tie.Need-same-length-2
+same-length-2 c = search needs
+
 returns : tie.Need-returns
+unfolding appended
 returns c =
-    let o4 = c .before .before in
-    let o3 = o4 .before .before .before .before in
-    let o2 = o3 .before .before .before .before in
-    let o1 = o2 .before .before .before .before in
-    let b = o1 .before .before .before .before .before in (
-      owes-law (b .args .w .now) _ _ _ (b .args .p) (b .args .m) (b .pre .2) (o1 .before .before .word .ensures)
-          (o1 .push .ensures .1) (o2 .causal-all .ensures .1) (o3 .raise-next .ensures .1) (o4 .send-oks .ensures .0),
+    let d = c .before .before in
+    let n = d .before .before .before .before .before in
+    let k = n .before .before .before .before .before .before in
+    let o = k .before .before .before .before .before .before .before in
+    let y = sent-by k in
+    let b = begin k in
+    let a = b .args in
+    let q = y .word .result in
+    let u = d .send-oks .last .0 in
+    let e = d .send-oks .ensures .0 .1 _ (state3 n) in
+    let h = bounds-oks (a .p) q _ _ (raised-bounds n) in (
       (
-        o4 .send-oks .ensures .1 .0,
-        fifo-law (b .args .w .now) _ _ _ _ (b .args .p) (b .args .m) (b .pre .2)
-            (o1 .before .before .word .ensures) (o1 .push .ensures .1) (o2 .causal-all .ensures .1)
-            (o3 .raise-next .ensures .1) (o4 .send-oks .ensures .1 .1),
+        d .send-oks .ensures .0 .0,
+        fifo-law (a .w .now) (o .append .last .0) (k .causal-all .last .0) (n .raise-next .last .0) u (a .p) (a .m) (low b)
+            (y .word .ensures) (o .append .ensures .0 .1) (k .causal-all .ensures .0 .1) (n .raise-next .ensures .1)
+            (d .send-oks .ensures .0 .1),
+      ),
+      (
+        (
+          index-words u _ e h (oks-index (a .p) q _ _ _ (raised-index n)),
+          logs-words u _ e h (a .p) (b .pre .1) (oks-logs (a .p) q _ _ (raised-logs n)),
+        ),
+        λ s z. turn-told s (a .p) (a .m) (b .pre .1) (d .send-oks .result .ready) (d .send-oks .result .sent)
+            (y .word .ensures ∙ reads-cell (a .w .now) (sender (a .m)) (low b) s z)
+            (d .send-oks .ensures .1 _
+            (n .raise-next .ensures .1 _ (k .causal-all .ensures .0 .1 _ (o .append .ensures .0 .1 s z)))),
       ),
     )
 
@@ -122,9 +177,10 @@ fifo-one-spec =
     mul-word
     add-word
     word-requires
-    push-requires
+    append-requires
     causal-all-requires
     raise-next-requires
     send-oks-requires
     same-length
+    same-length-2
     returns)

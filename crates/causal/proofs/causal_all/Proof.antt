@@ -1,151 +1,179 @@
--- `causal::causal_all` meets its contract. The loop's invariant: the words hold a state from which what is
--- left of the definition's loop ends where the whole loop ends. Assumes nothing.
-use borrow.Author.Needs.{needs}
-use mathlib.Core.Path.{_≡_, sym, _∙_}
-use Prim.Native.Nat.{_≤_}
+-- `causal::causal_all` meets its contract. The loop's invariant: the words hold a state from which what is left of
+-- the definition's loop ends where the whole loop ends, and the index is that of the state with the set in hand stored.
+-- Assumes nothing.
+use mathlib.Core.Path.{_≡_, sym, _∙_, subst}
+use Prim.Native.Nat.{ℕ}
 use native.Mathlib.Omega.{arith}
-use lib.ListN.{length}
-use Rattle.definitions.specs.World.{State, encode, view, causal-length}
-use Rattle.world.specs.Layout.{encode-view, reads-cell}
-use Rattle.bounds.specs.Bounds.{bounds-words}
-use Rattle.causal.specs.Causal.{Delivering, delivering-start, delivering-more, delivering-stop, delivering-end}
+use lib.ListN.{length, length-set}
+use borrow.Author.Needs.{needs}
+use Rattle.base.specs.Sets.{without-less}
+use Rattle.world.specs.Layout.{encode-view}
+use Rattle.definitions.specs.World.{State, encode, view, fifo-length}
+use Rattle.causal.specs.Open.{Earliest, Going, going-start, going-open, going-bounds, going-in, going-room, going-more, going-stop, going-end, going-index, going-logs}
 use Rattle.causal.proofs.causal_all.Statement.{statement}
 use Rattle.causal.proofs.causal_all.Tie as tie
 
 abbrev Inv-loop : tie.InvT-loop
-Inv-loop w₀ p n k left₀ w left = (length w ≡ 20480) × ((s : State) → w₀ ≡ encode s → Delivering p n s w left)
+Inv-loop w₀ x₀ p places₀ w x places =
+    (length w ≡ 20480) × (length x ≡ 112)
+    × ((s : State) → w₀ ≡ encode s → Going p (s (fifo-length p)) s w x places)
 
 abbrev μ-loop : tie.MeasureT-loop
-μ-loop w₀ p n k left₀ w left = left
+μ-loop w₀ x₀ p places₀ w x places = places
 
-mul-word : tie.Need-mul-word Inv-loop μ-loop
-mul-word c = search needs
+add-places : tie.Need-add-places Inv-loop μ-loop
+add-places c = search needs
 
-add-word : tie.Need-add-word Inv-loop μ-loop
-add-word c = search needs
+mul-places : tie.Need-mul-places Inv-loop μ-loop
+mul-places c = search needs
 
-add-word-2 : tie.Need-add-word-2 Inv-loop μ-loop
-add-word-2 c = search needs
-
-word-requires : tie.Need-word-requires Inv-loop μ-loop
-word-requires c κs = search needs
-
-mul-word-2 : tie.Need-mul-word-2 Inv-loop μ-loop
-mul-word-2 c = search needs
-
-add-word-3 : tie.Need-add-word-3 Inv-loop μ-loop
-add-word-3 c = search needs
-
-add-word-4 : tie.Need-add-word-4 Inv-loop μ-loop
-add-word-4 c = search needs
-
-word-requires-2 : tie.Need-word-requires-2 Inv-loop μ-loop
-word-requires-2 c κs = search needs
-
-sub-left : tie.Need-sub-left Inv-loop μ-loop
-sub-left c =
-    let b = c .before .before .before .before .before in
-    omega (
-      arith,
-      c .word2 .ensures,
-      c .before .before .word .ensures,
-      b .pre .2 .causal-lengths
-          (b .args .p) (b .pre .1),
-    )
+slice-read-places : tie.Need-slice-read-places Inv-loop μ-loop
+slice-read-places c = let b = c .before .before .before in omega (arith, b .pre .3 .long, b .pre .1)
 
 loop-holds : tie.Need-loop-holds Inv-loop μ-loop
 loop-holds c =
-    let b = c .before .before .before .before .before in (
+    let b = c .before .before .before in (
       b .pre .0,
-      delivering-start (b .args .p) (b .args .w .now) (b .pre .1) (b .pre .2)
-          (c .before .before .word .ensures) (c .word2 .ensures),
+      b .pre .3 .long,
+      going-start (b .args .p) (b .args .w .now) (b .args .x .now) (b .pre .1) (b .pre .2) (b .pre .3) (b .pre .4),
     )
 
--- the state at the loop's test
+-- the turn, from the state that the words held at first
 turn : (c : tie.At-loop Inv-loop μ-loop)
-    → Delivering (c .before .before .before .before .before .before .args .p)
-    (c .before .before .before .word .result)
-    (view (c .before .before .before .before .before .before .args .w .now)) (c .loop .w)
-    (c .loop .left)
+    → let a = c .before .before .before .before .args in
+    Going (a .p) (view (a .w .now) (fifo-length (a .p))) (view (a .w .now)) (c .loop .w) (c .loop .x) (c .loop .places)
 turn c =
-    c .loop .inv .1 (view (c .before .before .before .before .before .before .args .w .now))
-    (sym (encode-view (c .before .before .before .before .before .before .args .w .now)
-    (c .before .before .before .before .before .before .pre .0)))
+    let b = c .before .before .before .before in
+    c .loop .inv .2 (view (b .args .w .now)) (sym (encode-view (b .args .w .now) (b .pre .0)))
 
-first-deliverable-requires : tie.Need-first-deliverable-requires Inv-loop μ-loop
-first-deliverable-requires c κs =
-    let a = c .before .before in
-    let t = turn a in (
-      a .loop .inv .0,
-      a .before .before .before .before .before .before .pre .1,
-      bounds-words (a .loop .w)
-          (t .state) (t .words) (t .kept .bounds),
+first-open-requires : tie.Need-first-open-requires Inv-loop μ-loop
+first-open-requires c κs =
+    let l = c .before .before in
+    let b = l .before .before .before .before in
+    let g = turn l in (
+      l .loop .inv .0,
+      b .pre .1,
+      going-bounds (b .args .p) _ _ (l .loop .w) (l .loop .x) (l .loop .places) (b .pre .1) (l .loop .inv .1) g,
+      going-open (b .args .p) _ _ (l .loop .w) (l .loop .x) (l .loop .places) (b .pre .1) (l .loop .inv .1) g,
     )
+
+add-x : tie.Need-add-x Inv-loop μ-loop
+add-x c = search needs
+
+mul-x : tie.Need-mul-x Inv-loop μ-loop
+mul-x c = search needs
+
+slice-write-x : tie.Need-slice-write-x Inv-loop μ-loop
+slice-write-x c = let l = c .before .before .before .before in omega (arith, l .loop .inv .1, l .before .before .before .before .pre .1)
 
 same-length : tie.Need-same-length Inv-loop μ-loop
-same-length c =
-    c .before .before .before .before .loop .inv .0 ∙ sym
-    (c .before .before .before .before .before .before .before .before .before .before .pre .0)
+same-length c = let l = c .before .before .before .before in l .loop .inv .0 ∙ sym (l .before .before .before .before .pre .0)
+
+same-length-2 : tie.Need-same-length-2 Inv-loop μ-loop
+same-length-2 c =
+    let l = c .before .before .before .before in
+    simp length-set (l .loop .inv .1 ∙ sym (l .before .before .before .before .pre .3 .long))
 
 returns : tie.Need-returns Inv-loop μ-loop
 returns c =
-    let l = c .before .before .before .before .loop in
-    let b = c .before .before .before .before .before .before .before .before .before .before in (
-      l .inv .0,
-      λ s e. let t = l .inv .1 s e in delivering-stop (b .args .p) s t (c .if1 .taken)
-          (c .before .first-deliverable .ensures (t .state) (t .words)),
+    let o = c .before in
+    let l = o .before .before .before in
+    let b = l .before .before .before .before in
+    let i = l .loop in
+    let z : o .first-open .result ≡ 64 = omega (arith, o .first-open .ensures .0, c .if1 .taken) in
+    let e = subst (λ (r : ℕ). Earliest (view (i .w)) (b .args .p) r) z (o .first-open .ensures .1) in
+    let g = turn l in (
+      (
+        i .inv .0,
+        λ s q. going-stop (b .args .p) _ s (i .w) (i .x) (i .places) (b .pre .1) (i .inv .1) (i .inv .2 s q) e,
+      ),
+      (
+        going-index (b .args .p) _ _ (i .w) (i .x) (i .places) (b .pre .1) (i .inv .1) g,
+        going-logs (b .args .p) _ _ (i .w) (i .x) (i .places) (b .pre .1) (i .inv .1) g,
+      ),
     )
 
 causal-one-requires : tie.Need-causal-one-requires Inv-loop μ-loop
 causal-one-requires c κs =
-    let a = c .before .before .before .before .before in
-    let b = a .before .before .before .before .before .before in
-    let t = turn a in
-    let f : a .before .before .before .word .result ≤ 64 = omega (
-      arith,
-      a .before .before .before .word .ensures,
-      b .pre .2 .fifo-lengths (b .args .p) (b .pre .1),
-      b .pre .2 .counts,
-    ) in
-    let k = reads-cell (a .loop .w) (causal-length (b .args .p)) (omega (arith, b .pre .1)) (t .state)
-    (t .words) in (
-      a .loop .inv .0,
+    let e = c .before in
+    let o = e .before in
+    let l = o .before .before .before in
+    let b = l .before .before .before .before in
+    let i = l .loop in
+    let g = turn l in (
+      i .inv .0,
       b .pre .1,
-      omega (arith, c .before .if1 .left),
-      bounds-words (a .loop .w) (t .state)
-          (t .words) (t .kept .bounds),
-      omega
-          (arith, k, t .kept .room, c .before .before .before .before .loop-test .taken),
+      e .if1 .left,
+      going-bounds (b .args .p) _ _ (i .w) (i .x) (i .places) (b .pre .1) (i .inv .1) g,
+      going-room (b .args .p) _ _ (i .w) (i .x) (i .places) (b .pre .1) (i .inv .1) g (e .if1 .left)
+          (o .first-open .ensures .1),
     )
 
-sub-left-2 : tie.Need-sub-left-2 Inv-loop μ-loop
-sub-left-2 c = search needs
+drop-requires : tie.Need-drop-requires Inv-loop μ-loop
+drop-requires c κs = c .before .before .before .before .if1 .left
 
 loop-less : tie.Need-loop-less Inv-loop μ-loop
-loop-less c = search needs
+loop-less c =
+    let e = c .before .before .before .before .before in
+    let o = e .before in
+    let l = o .before .before .before in
+    let b = l .before .before .before .before in
+    let i = l .loop in
+    omega (
+      arith,
+      c .drop .ensures,
+      without-less (i .places) (o .first-open .result)
+          (going-in (b .args .p) _ _ (i .w) (i .x) (i .places) (b .pre .1) (i .inv .1) (turn l) (e .if1 .left)
+          (o .first-open .ensures .1))
+          (o .before .before .loop-test .taken),
+    )
 
 loop-again : tie.Need-loop-again Inv-loop μ-loop
 loop-again c =
-    let o = c .before .before in
-    let a = o .before .before .before .before .before .before in
-    let b = a .before .before .before .before .before .before in (
-      o .causal-one .ensures .0,
-      λ s e. let t = a .loop .inv .1 s e in
-          delivering-more (b .args .p) s t (o .before .before .before .before .before .loop-test .taken)
-          (o .before .before .if1 .left) (o .before .before .before .first-deliverable .ensures
-          (t .state) (t .words)) (o .causal-one .ensures .1),
+    let e = c .before .before .before .before .before in
+    let k = c .before .before .before .causal-one in
+    let o = e .before in
+    let l = o .before .before .before in
+    let b = l .before .before .before .before in
+    let i = l .loop in (
+      k .ensures .0,
+      i .inv .1,
+      λ s q. going-more (b .args .p) _ s (i .w) (i .x) (i .places) (b .pre .1) (i .inv .1) (i .inv .2 s q) (e .if1 .left)
+          (o .first-open .ensures .1) (k .ensures .1) (c .drop .ensures),
     )
 
-same-length-2 : tie.Need-same-length-2 Inv-loop μ-loop
-same-length-2 c =
-    c .before .loop .inv .0 ∙ sym (c .before .before .before .before .before .before .before .pre .0)
+add-x-2 : tie.Need-add-x-2 Inv-loop μ-loop
+add-x-2 c = search needs
+
+mul-x-2 : tie.Need-mul-x-2 Inv-loop μ-loop
+mul-x-2 c = search needs
+
+slice-write-x-2 : tie.Need-slice-write-x-2 Inv-loop μ-loop
+slice-write-x-2 c = let l = c .before in omega (arith, l .loop .inv .1, l .before .before .before .before .pre .1)
+
+same-length-3 : tie.Need-same-length-3 Inv-loop μ-loop
+same-length-3 c = let l = c .before in l .loop .inv .0 ∙ sym (l .before .before .before .before .pre .0)
+
+same-length-4 : tie.Need-same-length-4 Inv-loop μ-loop
+same-length-4 c =
+    let l = c .before in simp length-set (l .loop .inv .1 ∙ sym (l .before .before .before .before .pre .3 .long))
 
 returns-2 : tie.Need-returns-2 Inv-loop μ-loop
 returns-2 c =
-    let l = c .before .loop in
-    let b = c .before .before .before .before .before .before .before in
-    let z : l .left ≡ 0 = omega arith in
-    (l .inv .0, λ s e. delivering-end (b .args .p) s z (l .inv .1 s e))
+    let l = c .before in
+    let b = l .before .before .before .before in
+    let i = l .loop in
+    let g = turn l in (
+      (
+        i .inv .0,
+        λ s q. going-end (b .args .p) _ s (i .w) (i .x) (i .places) (b .pre .1) (i .inv .1) (i .inv .2 s q)
+            (c .loop-test .left),
+      ),
+      (
+        going-index (b .args .p) _ _ (i .w) (i .x) (i .places) (b .pre .1) (i .inv .1) g,
+        going-logs (b .args .p) _ _ (i .w) (i .x) (i .places) (b .pre .1) (i .inv .1) g,
+      ),
+    )
 
 pub causal-all-spec : {M : Type 1} → statement M
 causal-all-spec =
@@ -153,22 +181,24 @@ causal-all-spec =
     (tie.spec
     Inv-loop
     μ-loop
-    mul-word
-    add-word
-    add-word-2
-    word-requires
-    mul-word-2
-    add-word-3
-    add-word-4
-    word-requires-2
-    sub-left
+    add-places
+    mul-places
+    slice-read-places
     loop-holds
-    first-deliverable-requires
+    first-open-requires
+    add-x
+    mul-x
+    slice-write-x
     same-length
+    same-length-2
     returns
     causal-one-requires
-    sub-left-2
+    drop-requires
     loop-less
     loop-again
-    same-length-2
+    add-x-2
+    mul-x-2
+    slice-write-x-2
+    same-length-3
+    same-length-4
     returns-2)

@@ -15,7 +15,7 @@ sub-result : tie.Need-sub-result
 sub-result c = and-le-l (c .args .m) _
 
 returns : tie.Need-returns
-returns c = rw (one-shl (c .args .p) (c .pre)) (sub-without (c .args .m) (c .args .p))
+returns c = rw (one-shl 16 (c .args .p) (c .pre)) (sub-without (c .args .m) (c .args .p))
 
 pub clear-spec : {M : Type 1} → statement M
 clear-spec = tie.close (tie.spec cast-result shl-result sub-result returns)

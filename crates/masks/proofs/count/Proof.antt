@@ -4,7 +4,7 @@ use Rattle.masks.proofs.count.Statement.{statement}
 use Rattle.masks.proofs.count.Tie as tie
 
 returns : tie.Need-returns
-returns c = ones-members (c .args .m) (c .fits .m .fits)
+returns c = ones-members 16 (c .args .m) (c .fits .m .fits)
 
 pub count-spec : {M : Type 1} → statement M
 count-spec = tie.close (tie.spec returns)

@@ -11,7 +11,7 @@ shl-result : tie.Need-shl-result
 shl-result c = search needs
 
 returns : tie.Need-returns
-returns c = rw (one-shl (c .args .p) (c .pre)) (or-with (c .args .m) (c .args .p))
+returns c = rw (one-shl 16 (c .args .p) (c .pre)) (or-with (c .args .m) (c .args .p))
 
 pub set-spec : {M : Type 1} → statement M
 set-spec = tie.close (tie.spec cast-result shl-result returns)

@@ -1,4 +1,4 @@
--- `ranges::zeros` meets its contract. The loop's invariant: `ok` says whether the words passed are zero.
+-- `ranges::zeros` meets its contract. The loop's invariant: nothing is gathered exactly if the words passed are zero.
 -- Assumes nothing.
 use mathlib.Core.Path.{_≡_, refl}
 use Prim.Native.Nat.{_+_, _-_, _≤_}
@@ -7,28 +7,29 @@ use lib.Dec.{eqb}
 use lib.ListN.{getD}
 use Rattle.definitions.specs.General.{every}
 use Rattle.ranges.specs.Ranges.{zeros-at}
-use Rattle.base.specs.Search.{every-none, gathers, gathered}
+use Rattle.base.specs.Search.{every-none, gathered}
+use Rattle.ranges.specs.Laws.{gathers-or}
 use borrow.Author.Needs.{needs}
 use Rattle.ranges.proofs.zeros.Statement.{statement}
 use Rattle.ranges.proofs.zeros.Tie as tie
 
 abbrev Inv-loop : tie.InvT-loop
-Inv-loop w a n ok₀ i₀ ok i = (i ≤ n) × (ok ≡ every i (λ j. eqb (getD w (a + j) 0) 0))
+Inv-loop w a n any₀ i₀ any i = (i ≤ n) × (eqb any 0 ≡ every i (λ j. eqb (getD w (a + j) 0) 0))
 
 abbrev μ-loop : tie.MeasureT-loop
-μ-loop w a n ok₀ i₀ ok i = n - i
+μ-loop w a n any₀ i₀ any i = n - i
 
 loop-holds : tie.Need-loop-holds Inv-loop μ-loop
 loop-holds c = (omega arith, every-none _)
 
-add-ok : tie.Need-add-ok Inv-loop μ-loop
-add-ok c = search needs
+add-any : tie.Need-add-any Inv-loop μ-loop
+add-any c = search needs
 
-mul-ok : tie.Need-mul-ok Inv-loop μ-loop
-mul-ok c = search needs
+mul-any : tie.Need-mul-any Inv-loop μ-loop
+mul-any c = search needs
 
-shared-slice-read-ok : tie.Need-shared-slice-read-ok Inv-loop μ-loop
-shared-slice-read-ok c = search needs
+shared-slice-read-any : tie.Need-shared-slice-read-any Inv-loop μ-loop
+shared-slice-read-any c = search needs
 
 add-i : tie.Need-add-i Inv-loop μ-loop
 add-i c = search needs
@@ -39,7 +40,7 @@ loop-less c = search needs
 loop-again : tie.Need-loop-again Inv-loop μ-loop
 loop-again c =
     let l = c .before .before .loop in
-    (omega arith, gathers _ (l .i) (l .ok) _ (l .inv .1) refl)
+    (omega arith, gathers-or _ (l .i) (l .any) _ (l .inv .1) refl)
 
 returns : tie.Need-returns Inv-loop μ-loop
 unfolding zeros-at
@@ -53,9 +54,9 @@ zeros-spec =
     Inv-loop
     μ-loop
     loop-holds
-    add-ok
-    mul-ok
-    shared-slice-read-ok
+    add-any
+    mul-any
+    shared-slice-read-any
     add-i
     loop-less
     loop-again

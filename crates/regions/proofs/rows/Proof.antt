@@ -1,24 +1,26 @@
--- `regions::rows` meets its contract. The loop's invariant: `ok` says whether the flags and marks passed may
--- be. Assumes nothing.
+-- `regions::rows` meets its contract. The loop's invariant: nothing is gathered exactly if the flags and
+-- marks passed may be. Assumes nothing.
 use mathlib.Core.Path.{_≡_, _∙_}
 use Prim.Native.Nat.{_+_, _-_, _*_, _≤_}
 use native.Mathlib.Omega.{arith}
+use lib.Dec.{eqb}
 use lib.ListN.{getD}
 use Rattle.definitions.specs.General.{every}
-use Rattle.base.specs.Search.{every-none, gathers, gathered}
+use Rattle.base.specs.Search.{every-none, gathered}
+use Rattle.ranges.specs.Laws.{gathers-or}
 use Rattle.regions.specs.Rows.{row-ok, rows-law}
 use borrow.Author.Needs.{needs}
 use Rattle.regions.proofs.rows.Statement.{statement}
 use Rattle.regions.proofs.rows.Tie as tie
 
 abbrev Inv-loop : tie.InvT-loop
-Inv-loop w p addressees at ok₀ m₀ ok m =
-    (m ≤ 64) × (ok ≡ every m
+Inv-loop w p addressees at any₀ m₀ any m =
+    (m ≤ 64) × (eqb any 0 ≡ every m
     (λ x. row-ok (getD w (3 + p * 429 + 173 + x) 0) (getD w (3 + p * 429 + 237 + x) 0) (getD addressees x 0)
     p))
 
 abbrev μ-loop : tie.MeasureT-loop
-μ-loop w p addressees at ok₀ m₀ ok m = 64 - m
+μ-loop w p addressees at any₀ m₀ any m = 64 - m
 
 mul-at : tie.Need-mul-at Inv-loop μ-loop
 mul-at c = search needs
@@ -71,7 +73,7 @@ loop-less c = search needs
 loop-again : tie.Need-loop-again Inv-loop μ-loop
 loop-again c =
     let l = c .before .before .before .before .before .loop in
-    (omega arith, gathers _ (l .m) (l .ok) _ (l .inv .1) (c .row .ensures))
+    (omega arith, gathers-or _ (l .m) (l .any) _ (l .inv .1) (c .row .ensures))
 
 returns : tie.Need-returns Inv-loop μ-loop
 returns c =

@@ -1,95 +1,122 @@
--- `sends::send_oks` meets its contract. The loop's invariant: the OKs for the messages below k are sent,
--- and whether there was one is known. Assumes nothing.
-use mathlib.Core.Path.{_≡_, sym, ap, _∙_}
-use Prim.Native.Nat.{ℕ, _-_, _≤_}
+-- `sends::send_oks` meets its contract. The loop's invariant: the OKs for the messages of q below the lowest left
+-- are sent, and the sets have those that are ready and those with an OK. Assumes nothing.
+use mathlib.Core.Path.{_≡_, sym, ap, _∙_, subst}
+use mathlib.Core.Bool.{Bool}
+use Rattle.sets.specs.Lowest.{lowest}
+use Prim.Native.Nat.{ℕ, _+_, _^_, _<_}
 use native.Mathlib.Omega.{arith}
-use borrow.Author.Needs.{needs}
 use lib.ListN.{length}
-use Rattle.definitions.specs.General.{some}
-use Rattle.definitions.specs.World.{State, encode, view, count}
-use Rattle.definitions.specs.Machine.{due, send-ok, send-oks}
-use Rattle.world.specs.Layout.{encode-view, reads-cell}
-use Rattle.bounds.specs.Bounds.{Bounds, bounds-words}
-use Rattle.sends.specs.Sends.{bounds-oks, oks-start, oks-more, owed-start, owed-more}
+use Rattle.definitions.specs.General.{pick, with}
+use Rattle.sets.specs.Sweep.{sweep-less}
+use Rattle.bounds.specs.Bounds.{bounds-state}
+use Rattle.index.specs.Index.{index-state}
+use Rattle.world.specs.Layout.{encode-view, Changes}
+use Rattle.definitions.specs.Machine.{ready, send-ok}
+use Rattle.definitions.specs.World.{State, encode, view, sender}
+use Rattle.sends.specs.Oks.{owed, Sending, sending-start, sending-bounds, sending-index, sending-low, sending-ready, sending-owed, sending-more, sending-end}
+use borrow.Author.Needs.{needs}
 use Rattle.sends.proofs.send_oks.Statement.{statement}
 use Rattle.sends.proofs.send_oks.Tie as tie
 
 abbrev Inv-loop : tie.InvT-loop
-Inv-loop w₀ p q n any₀ k₀ w any k =
-    (k ≤ n) × (length w ≡ 20480)
-    × ((s : State) → w₀ ≡ encode s → (w ≡ encode (send-oks s p q k)) × (any ≡ some k (due s p q)))
+Inv-loop w₀ x p q left₀ t₀ w left t =
+    (length w ≡ 20480) × (left < 2 ^ 64)
+    × ((s : State) → w₀ ≡ encode s → Sending s p q w left (t .ready) (t .sent))
 
 abbrev μ-loop : tie.MeasureT-loop
-μ-loop w₀ p q n any₀ k₀ w any k = n - k
+μ-loop w₀ x p q left₀ t₀ w left t = left
 
-word-requires : tie.Need-word-requires Inv-loop μ-loop
-word-requires c κs = search needs
+add-left : tie.Need-add-left Inv-loop μ-loop
+add-left c = search needs
+
+mul-left : tie.Need-mul-left Inv-loop μ-loop
+mul-left c = search needs
+
+shared-slice-read-left : tie.Need-shared-slice-read-left Inv-loop μ-loop
+shared-slice-read-left c = let b = c .before .before .before in omega (arith, b .pre .2, b .pre .4 .long)
 
 loop-holds : tie.Need-loop-holds Inv-loop μ-loop
 loop-holds c =
-    let b = c .before .before .before in (
-      omega arith,
+    let b = c .before .before .before in
+    let a = b .args in (
       b .pre .0,
-      λ s e. (e ∙ ap encode (sym (oks-start (b .args .p) (b .args .q) s)), owed-start (b .args .p) (b .args .q) s),
+      omega (arith, c .shared-slice-known2 .given (64 + a .q)),
+      λ s e. sending-start s (a .p) (a .q) (bounds-state (a .w .now) s e (b .pre .3) .counts) (a .x .now) e
+          (index-state (a .w .now) s e (b .pre .3) (b .pre .4) .own (a .q) (b .pre .2)),
     )
 
-bounds-now : (c : tie.At-loop Inv-loop μ-loop) → Bounds (view (c .loop .w))
-bounds-now c =
-    let b = c .before .before .before .before in
-    let s : State = view (b .args .w .now) in
-    bounds-words (c .loop .w) (send-oks s (b .args .p) (b .args .q) (c .loop .k))
-    (c .loop .inv .2 s (sym (encode-view (b .args .w .now) (b .pre .0))) .0)
-    (bounds-oks (b .args .p) (b .args .q) (c .loop .k) s (b .pre .2))
+lowest-requires : tie.Need-lowest-requires Inv-loop μ-loop
+lowest-requires c κs = tt
 
-send-ok-requires : tie.Need-send-ok-requires Inv-loop μ-loop
-send-ok-requires c κs =
-    let a = c .before .before in
-    let b = a .before .before .before .before in (
-      a .loop .inv .1,
+answer-requires : tie.Need-answer-requires Inv-loop μ-loop
+answer-requires c κs =
+    let o = c .before in
+    let l = o .before .before in
+    let b = l .before .before .before .before in
+    let a = b .args in
+    let v = view (a .w .now) in
+    let few = b .pre .3 .counts in
+    let g = l .loop .inv .2 v (sym (encode-view (a .w .now) (b .pre .0))) in
+    let n = o .before .loop-test .taken in
+    let k = l .loop .inv .1 in (
+      l .loop .inv .0,
       b .pre .1,
-      omega
-          (arith, c .before .loop-test .taken, a .before .word .ensures, b .pre .2 .counts),
-      bounds-now a,
+      omega (arith, o .lowest .ensures, sending-low v (a .p) (a .q) few g k n (b .pre .1) (b .pre .3)),
+      sending-bounds v (a .p) (a .q) few g k n (b .pre .1) (b .pre .3),
+      sending-index v (a .p) (a .q) few g k n (b .pre .1) (b .pre .3) (b .pre .4),
     )
 
-add-k : tie.Need-add-k Inv-loop μ-loop
-add-k c = search needs
+rest-requires : tie.Need-rest-requires Inv-loop μ-loop
+rest-requires c κs = c .before .before .before .before .before .loop-test .taken
 
 loop-less : tie.Need-loop-less Inv-loop μ-loop
-loop-less c = search needs
+loop-less c =
+    let i = c .before .before .before .before .before .before in
+    sweep-less (i .before .loop .inv .1) (i .loop-test .taken) (c .rest .ensures)
 
 loop-again : tie.Need-loop-again Inv-loop μ-loop
 loop-again c =
-    let o = c .before .before in
-    let l = o .before .before .before .loop in
-    let b = o .before .before .before .before .before .before .before in (
-      omega (arith, o .before .before .loop-test .taken),
-      o .send-ok .ensures .1 .0,
-      λ s e. let t = send-oks s (b .args .p) (b .args .q) (l .k) in
-          let h = l .inv .2 s e in (
-            o .send-ok .ensures .1 .1 t (h .0) ∙ ap encode (oks-more (b .args .p) (b .args .q) (l .k) s),
-            owed-more (b .args .p) (b .args .q) (l .k) s (h .1) (o .send-ok .ensures .0 t (h .0)),
-          ),
+    let n = c .before .before .before in
+    let o = n .before .before in
+    let i = o .before in
+    let l = i .before in
+    let b = l .before .before .before .before in
+    let a = b .args in
+    let t = l .loop .t in
+    let k = l .loop .inv .1 in (
+      n .answer .ensures .0 .0,
+      omega (arith, k, sweep-less k (i .loop-test .taken) (c .rest .ensures)),
+      λ s e. let h = bounds-state (a .w .now) s e (b .pre .3) in
+          let g = l .loop .inv .2 s e in
+          sending-more s (a .p) (a .q) (h .counts) g k (i .loop-test .taken) (c .rest .ensures)
+          (subst (λ (y : ℕ). Changes (l .loop .w) (n .answer .last .0) (λ z. send-ok z (a .p) (z (sender y)) y)) (o .lowest .ensures)
+          (n .answer .ensures .0 .1))
+          (n .answer .ensures .1 .0
+          ∙ ap (λ (y : ℕ). pick (ready (view (l .loop .w)) (a .p) y) (with (t .ready) y) (t .ready)) (o .lowest .ensures)
+          ∙ ap (λ (y : Bool). pick y (with (t .ready) (lowest (l .loop .left))) (t .ready))
+          (sending-ready s (a .p) (a .q) (h .counts) g k (i .loop-test .taken) (b .pre .1) h))
+          (n .answer .ensures .1 .1
+          ∙ ap (λ (y : ℕ). pick (owed (view (l .loop .w)) (a .p) y) (with (t .sent) y) (t .sent)) (o .lowest .ensures)
+          ∙ ap (λ (y : Bool). pick y (with (t .sent) (lowest (l .loop .left))) (t .sent))
+          (sending-owed s (a .p) (a .q) (h .counts) g k (i .loop-test .taken) (b .pre .1) h)),
     )
 
 same-length : tie.Need-same-length Inv-loop μ-loop
-same-length c = c .before .loop .inv .1 ∙ sym (c .before .before .before .before .before .pre .0)
+same-length c = let l = c .before in l .loop .inv .0 ∙ sym (l .before .before .before .before .pre .0)
 
 returns : tie.Need-returns Inv-loop μ-loop
 returns c =
-    let l = c .before .loop in
-    let n = c .before .before .word in
-    let b = c .before .before .before .before .before in
-    let k : l .k ≡ n .result = omega arith in (
-      λ s e. l .inv .2 s e .1
-          ∙ ap (λ (x : ℕ). some x (due s (b .args .p) (b .args .q)))
-          (k ∙ n .ensures ∙ reads-cell (b .args .w .now) count tt s e),
+    let l = c .before in
+    let b = l .before .before .before .before in
+    let a = b .args in (
       (
-        l .inv .1,
-        λ s e. l .inv .2 s e .0
-            ∙ ap (λ (x : ℕ). encode (send-oks s (b .args .p) (b .args .q) x))
-            (k ∙ n .ensures ∙ reads-cell (b .args .w .now) count tt s e),
+        l .loop .inv .0,
+        λ s e. sending-end s (a .p) (a .q) (bounds-state (a .w .now) s e (b .pre .3) .counts) (l .loop .inv .2 s e)
+            (c .loop-test .left) .0,
       ),
+      λ s e. let z = sending-end s (a .p) (a .q) (bounds-state (a .w .now) s e (b .pre .3) .counts) (l .loop .inv .2 s e)
+          (c .loop-test .left) in
+          (z .1, z .2),
     )
 
 pub send-oks-spec : {M : Type 1} → statement M
@@ -98,10 +125,13 @@ send-oks-spec =
     (tie.spec
     Inv-loop
     μ-loop
-    word-requires
+    add-left
+    mul-left
+    shared-slice-read-left
     loop-holds
-    send-ok-requires
-    add-k
+    lowest-requires
+    answer-requires
+    rest-requires
     loop-less
     loop-again
     same-length
