@@ -44,8 +44,8 @@
 #include <stdint.h>
 
 /* The version of this header, as text and as the number that wt_version gives. */
-#define WT_VERSION "9.2.0"
-#define WT_VERSION_NUMBER 9002000
+#define WT_VERSION "9.3.0"
+#define WT_VERSION_NUMBER 9003000
 
 #ifdef __cplusplus
 extern "C" {
@@ -117,17 +117,21 @@ uint32_t wt_preview(const uint16_t *world, size_t world_length, const uint8_t *s
                     uint16_t *second, size_t second_length, uint32_t *fifo, uint32_t *causal);
 
 /*
- * Makes arrivals, each of the lowest letter in flight between two up processes, by message, kind, from, to.
+ * Makes arrivals, each of the lowest letter in flight whose receiver is up, by message, kind, from, to. Whether the
+ * process that it is from is up or down does not matter: the last letters of one that has crashed still come.
  *   budget     the most arrivals to make
  *   arrivals   where the number of those made is put
  *   done       where 1 is put if no such letter remains, or 0 if the budget is used and one remains
  * Returns 0, or refusal 1, 2. Changes the words of world, *arrivals and *done.
  *
+ * Once it says done, nothing is left to come to a process that is up: letters to processes that are down stay in
+ * flight, and one that was lost is gone. With budget 0 it changes no word, and tells whether anything is to come.
+ *
  * It is for trials, and for a program that carries the letters itself: with a network, take the arrivals that have
  * happened. Its arrivals are no records: a journal of your steps alone does not replay to the world that a settle
  * leaves. If you keep a journal, take the arrivals as steps instead: with wt_next_letter from 0, find the first letter
- * with both ends up, take its arrival, and begin again, until there is none. That leaves the very words that this call
- * leaves.
+ * whose receiver is up, take its arrival, and begin again, until there is none. That leaves the very words that this
+ * call leaves.
  */
 uint32_t wt_settle(uint16_t *world, size_t world_length, uint32_t budget, uint32_t *arrivals, uint32_t *done);
 

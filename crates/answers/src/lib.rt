@@ -43,5 +43,5 @@ pub fn outcome(x: Outcome) -> u32
 pub fn of_version() -> u32
     ensures { λ n. ⌜ n ≡ version ⌝ }
 {
-    9002000
+    9003000
 }

@@ -11,7 +11,7 @@ use borrow.Author.Tests.{ne-eqb, eq-eqb}
 use native.Mathlib.Decide.{ℕ-discrete}
 use mathlib.Core.Logic.{_⊎_, inl, inr}
 use Rattle.definitions.specs.General.{pick, bit, with, without, mask-of, only}
-use Rattle.base.specs.Tests.{clash, either-l, either-r, le-or-lt}
+use Rattle.base.specs.Tests.{clash, either-l, either-r, le-or-lt, or-false}
 use Rattle.base.specs.Search.{every-true, every-intro, every-cong}
 
 -- 1 << p in k bits does not lose its bit
@@ -141,11 +141,7 @@ pub with-hit : (m p : ℕ) → bit (with m p) p ≡ true
 with-hit m p = bit-with m p p ∙ either-r (bit m p) (eqb p p) (eq-eqb p p refl)
 
 pub with-other : (m p q : ℕ) → (p ≡ q → ⊥) → bit (with m p) q ≡ bit m q
-with-other m p q n = bit-with m p q ∙ ap (λ (b : Bool). bit m q || b) (ne-eqb p q n) ∙ or-no (bit m q)
-  where
-    or-no : (b : Bool) → (b || false) ≡ b
-    or-no true = refl
-    or-no false = refl
+with-other m p q n = bit-with m p q ∙ ap (λ (b : Bool). bit m q || b) (ne-eqb p q n) ∙ or-false (bit m q)
 
 pub with-cases : (m p q : ℕ) → bit (with m p) q ≡ true → (bit m q ≡ true) ⊎ (p ≡ q)
 with-cases m p q e = go (ℕ-discrete p q)

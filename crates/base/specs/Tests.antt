@@ -50,6 +50,14 @@ and-swap true false = refl
 and-swap false true = refl
 and-swap false false = refl
 
+pub and-false : (a : Bool) → (a && false) ≡ false
+and-false true = refl
+and-false false = refl
+
+pub or-false : (a : Bool) → (a || false) ≡ a
+or-false true = refl
+or-false false = refl
+
 pub either-e : (a b : Bool) → either a b ≡ true → (a ≡ true) ⊎ (b ≡ true)
 either-e true b e = inl refl
 either-e false b e = inr e

@@ -14,7 +14,7 @@ use Rattle.definitions.specs.Steps.{arrives, step}
 use Rattle.definitions.specs.Settle.{Choice, letter, nothing, lowest, Ending, done, stopped, Settled, settle-from}
 use Rattle.definitions.specs.History.{Item, run}
 use Rattle.world.specs.SoundLaws.{Sound}
-use Rattle.world.specs.StepLaws.{Moves, Chosen, lowest-chosen, moves-taken}
+use Rattle.world.specs.StepLaws.{Arrives, Chosen, lowest-chosen, moves-taken}
 use Rattle.world.specs.SettleLaws.{settle}
 use Rattle.world.specs.Runs.{on-states, started}
 use Rattle.keeps.specs.Keeps.{fresh-sound, step-sound, run-sound}
@@ -83,7 +83,7 @@ module _ {S : Type 0} (choose : S → Choice) (arrive : S → ℕ → ℕ → �
         go nothing e ih = record { kept = p; few = omega arith; finishes = λ h. (refl, e) }
 
 -- ---- a letter that can move, of a sound world
-module _ (s : State) (k m q p : ℕ) (h : Sound s) (a : Moves s k m q p) where
+module _ (s : State) (k m q p : ℕ) (h : Sound s) (a : Arrives s k m q p) where
   -- its arrival leaves the world sound
   sound-arrival : Sound (arrival s k m q p)
   unfolding step
@@ -114,7 +114,7 @@ module _ (choose : State → Choice) (good : (s : State) → Chosen s (choose s)
       settle-ends choose arrival Sound potential
       (λ t k m q p e z. moved t k m q p (rw e at (good t)) z) b 0 s h
     where
-      moved : (t : State) (k m q p : ℕ) → Moves t k m q p → Sound t
+      moved : (t : State) (k m q p : ℕ) → Arrives t k m q p → Sound t
           → Falls choose arrival Sound potential t (arrival t k m q p)
       moved t k m q p a z = record { keeps = sound-arrival t k m q p z a; lowers = moved-falls t k m q p z a }
 

@@ -54,7 +54,7 @@ pub fn preview(w: &[u16], bytes: &[u8], second: &mut [u16]) -> Previewing
     }
 }
 
-// Makes at most `budget` arrivals, each of the lowest letter between two up processes: 1, then 2.
+// Makes at most `budget` arrivals, each of the lowest letter to an up process: 1, then 2.
 pub fn settle(w: &mut [u16], budget: u32) -> Settling
     ensures answer { λ r. ⌜ settling-reply r ≡ settle-reply (now (w .entry)) budget ⌝ }
     ensures words { λ _. ⌜ now (w .exit) ≡ settled-words (now (w .entry)) budget ⌝ }

@@ -127,8 +127,7 @@ module _ {s t : State} (a : Agree s t) where
       → moves s m k q p ≡ moves t m k q p
   unfolding moves
   moves-agree m k q p hm hk hq hp =
-      ap₂ (λ (x y : Bool). x && y)
-      (ap₂ (λ (x y : Bool). x && y) (flight-agree k m q p hk hm hq) (up-agree q hq)) (up-agree p hp)
+      ap₂ (λ (x y : Bool). x && y) (flight-agree k m q p hk hm hq) (up-agree p hp)
 
   -- the first of the processes that passes, where the tests agree
   first-agree : (f g : ℕ → Bool) → ((i : ℕ) → i < s size → f i ≡ g i)

@@ -19,7 +19,7 @@ use Rattle.world.specs.SoundLaws.{Sound, size-high}
 use Rattle.world.specs.StepLaws.{lowest-moves, moves-taken}
 use Rattle.world.specs.SettleLaws.{settle, Alike, settle-related}
 use Rattle.world.specs.Runs.{on-states, started}
-use Rattle.keeps.specs.Keeps.{step-sound, run-sound}
+use Rattle.keeps.specs.Keeps.{fresh-sound, step-sound, run-sound}
 use Rattle.effects.specs.Events.{deliveries-same}
 use Rattle.carried.specs.Same.{Agree, same}
 use Rattle.carried.specs.Calls.{view-agree, same-words, refusal-agree, step-agree, lowest-agree, sound-world}
@@ -191,3 +191,10 @@ module _ (w setup : List ℕ) (e : making-refusal w setup ≡ 0) where
   pub start-carried : started-words w setup ≡ written (started setup)
   unfolding made-words
   start-carried = ap (λ (n : ℕ). record { now = pick (eqb n 0) (encode (made setup)) w; seen = [] }) e
+
+  -- and so are those after a list of items
+  pub words-after : (items : List Item)
+      → run on-words (started-words w setup) items .now ≡ encode (run on-states (started setup) items .now)
+  words-after items =
+      ap (λ (r : Run (List ℕ)). run on-words r items .now) start-carried
+      ∙ ap (λ (r : Run (List ℕ)). r .now) (run-carried (started setup) items (fresh-sound setup setup-taken))

@@ -82,6 +82,6 @@ abbrev pub done-in : Ending → ℕ
 done-in (done n) = 1
 done-in (stopped n) = 0
 
--- The version of the engine, 9.2.0: a million times its first number, a thousand times its second, and its third.
+-- The version of the engine, 9.3.0: a million times its first number, a thousand times its second, and its third.
 abbrev pub version : ℕ
-version = 9002000
+version = 9003000

@@ -15,3 +15,4 @@ pub mod Answers
 pub mod Demand
 pub mod OrderNumbers
 pub mod Previews
+pub mod NothingToCome

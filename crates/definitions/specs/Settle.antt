@@ -1,12 +1,11 @@
 -- Settle: arrivals one after the other, each of the letter that a choice names, at most a given number:
--- document 01, section "Precedence, trust rule, settle". The choice is a parameter; document 01's is the
--- lowest letter between two up processes. It rests on Machine. Assumes nothing.
+-- document 01, section "Precedence, trust rule, settle", as card 4 of document 02 amends it. The choice is a
+-- parameter; these papers' is the lowest letter whose receiver is up. It rests on Steps. Assumes nothing.
 use mathlib.Core.Bool.{Bool, true, false, _&&_}
 use Prim.Native.Nat.{ℕ, zero, suc, _+_}
 use lib.Dec.{ltb}
 use Rattle.definitions.specs.General.{first-from}
 use Rattle.definitions.specs.World.{size, count, State}
-use Rattle.definitions.specs.Machine.{arrival}
 use Rattle.definitions.specs.Steps.{is-up, in-flight}
 
 -- ---- the choice: a letter (kind, message, from, to), or nothing
@@ -14,9 +13,10 @@ pub data Choice : Type 0 where
   letter : ℕ → ℕ → ℕ → ℕ → Choice
   nothing : Choice
 
--- "in flight between two up processes": the letter of kind k for m from q to p can move.
+-- "settle moves every letter whose receiver is up, from origins up or down" (document 02, card 4; document 01
+-- has "in flight between two up processes"): the letter of kind k for m from q to p can move.
 unfoldable pub moves : State → ℕ → ℕ → ℕ → ℕ → Bool
-moves s m k q p = in-flight s k m q p && is-up s q && is-up s p
+moves s m k q p = in-flight s k m q p && is-up s p
 
 -- "The search over message, letter kind, sender and receiver ends at the first letter found": the lowest
 -- receiver, the lowest sender that has one, the lowest kind that has such a sender, whether there is one.
@@ -39,7 +39,7 @@ letter-of s m =
     let q = origin s m k in
     letter k m q (receiver s m k q)
 
--- "the lowest letter in flight between two up processes, by message, kind, from, to"
+-- "the lowest letter" of these, "by message, kind, from, to"
 unfoldable pub lowest : State → Choice
 lowest s =
     let m = first-from (s count) 0 (movable s) in
@@ -56,7 +56,7 @@ pub record Settled (S : Type 0) : Type 0 where
 -- Over any states, with any choice and any arrival.
 module _ {S : Type 0} (choose : S → Choice) (arrive : S → ℕ → ℕ → ℕ → ℕ → S) where
   -- At most b more arrivals, n having been made; "stopped: exactly when that number is the budget and such
-  -- a letter remains".
+  -- a letter remains" (document 01), "the budget is used and such a letter remains" (document 02, card 4).
   unfoldable pub settle-from : ℕ → ℕ → S → Settled S
   settle-from zero n s =
       elim (choose s) [

@@ -16,7 +16,7 @@ use Rattle.definitions.specs.Setup.{setup-refusal}
 use Rattle.definitions.specs.Steps.{arrives, is-up, in-flight, step}
 use Rattle.definitions.specs.Settle.{nothing, moves, lowest, Settled, settle-from}
 use Rattle.definitions.specs.History.{Run, Item, taken, run, TrustRule}
-use Rattle.base.specs.Tests.{bool-cases, clash, both, both-i}
+use Rattle.base.specs.Tests.{bool-cases, clash, both-i}
 use Rattle.world.specs.StepLaws.{lowest-chosen, lowest-moves, moves-taken}
 use Rattle.world.specs.SettleLaws.{settle}
 use Rattle.world.specs.Runs.{on-states, started}
@@ -39,8 +39,7 @@ unfolding moves
 calm s e k m q p hk hm hq hp uq up-p = elim (bool-cases (in-flight s k m q p)) [
   | inr z ↦ z
   | inl z ↦ clash
-      (both-i (both (in-flight s k m q p) (is-up s q)) (is-up s p)
-      (both-i (in-flight s k m q p) (is-up s q) z (eq-eqb (s (up q)) 1 uq)) (eq-eqb (s (up p)) 1 up-p))
+      (both-i (in-flight s k m q p) (is-up s p) z (eq-eqb (s (up p)) 1 up-p))
       (rw e at (lowest-chosen s) k m q p hk hm hq hp)
 ]
 

@@ -15,7 +15,7 @@ use borrow.Author.Tests.{lt-ltb, le-ltb, ltb-true, ltb-false, ne-eqb}
 use Rattle.definitions.specs.General.{bit, with, without, absent, in-at}
 use Rattle.base.specs.Bits.{mask-of-cong, bit-with, with-hit, with-other, without-hit, without-other}
 use Rattle.base.specs.Count.{absent-cong, absent-out}
-use Rattle.base.specs.Tests.{both, both-i, both-r, either, eqb-refl, is-other, le-or-lt}
+use Rattle.base.specs.Tests.{both, both-i, both-r, either, eqb-refl, is-other, le-or-lt, or-false}
 use Rattle.base.specs.Search.{every-next}
 use Rattle.bounds.specs.Bounds.{Bounds}
 use Rattle.definitions.specs.World.{size, count, group, sender, mask, fifo-length, causal-length, fifo, causal, State, put, outside-fifo, outside-causal}
@@ -335,13 +335,9 @@ module _ (s : State) (p groups o : ℕ) where
         (le-ltb (s count) (s count) (omega arith)) (eqb-refl (s count))))
     from-more q k (no d) =
         ap₂ both (below (ltb k (s count)) refl) (ap (λ (c : ℕ). eqb c q) (sender-old k d))
-        ∙ or-no (is-from (frame s) q k)
+        ∙ sym (or-false (is-from (frame s) q k))
         ∙ sym (ap (λ (c : Bool). either (is-from (frame s) q k) (both c (eqb p q))) (ne-eqb (s count) k d))
       where
-        or-no : (c : Bool) → c ≡ either c false
-        or-no true = refl
-        or-no false = refl
-
         below : (c : Bool) → ltb k (s count) ≡ c → ltb k (one-more count) ≡ ltb k (s count)
         below true e = lt-ltb k (one-more count) (omega (arith, count-more, ltb-true k (s count) e)) ∙ sym e
         below false e = le-ltb k (one-more count) (omega (arith, count-more, ltb-false k (s count) e)) ∙ sym e

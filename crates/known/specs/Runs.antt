@@ -262,21 +262,36 @@ trust-cascades = plays pair 0
     ∷ shows 0 true (0 ∷ []) (0 ∷ [])
     ∷ [])
 
--- ---- of a crashed sender: a settle leaves its letters, an arrival takes them; a down receiver (9) comes before
+-- ---- of a crashed sender: arrivals and a settle take its letters; those to it stay, and a down receiver (9) comes before
 -- what is not in flight (11)
 abbrev down-sender : Row
 down-sender = plays pair 0
     (takes (multicasting 0 1) 0
     ∷ takes (crashing 0) 0
-    ∷ settles 5 (done 0)
+    ∷ settles 0 (stopped 0)
     ∷ takes (arriving 0 0 0 1) 0
+    ∷ settles 5 (done 1)
+    ∷ takes (arriving 0 0 0 0) 9
+    ∷ takes (losing 0 0 0 0) 0
     ∷ takes (arriving 1 0 1 0) 9
+    ∷ [])
+
+-- ---- request 4: process 0 multicasts message 0 to group 1, that is process 1, and crashes; the first letter and the OK
+-- still arrive
+abbrev dead-sender : Row
+dead-sender = plays three 0
+    (takes (multicasting 0 2) 0
+    ∷ takes (crashing 0) 0
+    ∷ settles 33792 (done 2)
+    ∷ shows 1 true (0 ∷ []) (0 ∷ [])
+    ∷ shows 0 false [] []
     ∷ [])
 
 abbrev pub table : List Row
 table =
     run-1 ∷ run-2 ∷ run-3 ∷ run-4 ∷ run-5
-    ++ (run-6 ∷ run-7 ∷ run-8 ∷ ok-holds ∷ same-sender ∷ settled ∷ refusals ∷ trust-cascades ∷ down-sender ∷ [])
+    ++ (run-6 ∷ run-7 ∷ run-8 ∷ ok-holds ∷ same-sender ∷ settled ∷ refusals ∷ trust-cascades ∷ down-sender
+    ∷ dead-sender ∷ [])
 
 pub known-runs : all-pass table ≡ true
 unfolding ℕ-discrete lines-pass row-passes all-pass every some first-from absent chosen loop bit with

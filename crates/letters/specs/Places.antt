@@ -198,8 +198,7 @@ module _ (s t : State) (k m q p : ℕ) (h : Sound s) (same : (c : Cell) → With
       (λ r l. sym (lives r (omega (arith, sizes, size-high s h))))
 
   -- where the letters of x, j, o are the same, none moves that did not
-  pub unmoved : (x j o r : ℕ) → o < 16 → r < 16 → t (flight x j o) ≡ s (flight x j o) → moves s x j o r ≡ false
+  pub unmoved : (x j o r : ℕ) → r < 16 → t (flight x j o) ≡ s (flight x j o) → moves s x j o r ≡ false
       → moves t x j o r ≡ false
   unfolding moves
-  unmoved x j o r ho hr f z =
-      ap₂ _&&_ (ap₂ _&&_ (ap (λ (y : ℕ). bit y r) f) (lives o ho)) (lives r hr) ∙ z
+  unmoved x j o r hr f z = ap₂ _&&_ (ap (λ (y : ℕ). bit y r) f) (lives r hr) ∙ z

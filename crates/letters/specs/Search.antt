@@ -1,5 +1,5 @@
 -- The search for the lowest letter, as the code goes: by masks, the lowest receiver by trailing zeros. Assumes nothing.
-use mathlib.Core.Path.{_≡_, refl, sym, ap, ap₂, _∙_}
+use mathlib.Core.Path.{_≡_, sym, ap, ap₂, _∙_}
 use mathlib.Core.Bool.{Bool, true, false, _&&_}
 use mathlib.Core.Logic.{_⊎_, inl, inr}
 use Prim.Native.Nat.{ℕ, _+_, _≤_, _<_}
@@ -12,9 +12,9 @@ use Rattle.definitions.specs.General.{pick, first-from, bit, with, mask-of}
 use Rattle.definitions.specs.World.{size, count, flight, State}
 use Rattle.definitions.specs.Steps.{is-up}
 use Rattle.definitions.specs.Settle.{Choice, letter, nothing, moves, receiver, origin, kind, movable, letter-of, lowest}
-use Rattle.base.specs.Tests.{clash, le-or-lt}
+use Rattle.base.specs.Tests.{clash, le-or-lt, and-false}
 use Rattle.base.specs.Search.{First, first-law}
-use Rattle.base.specs.Bits.{bit-and, bit-zero, bit-mask-of}
+use Rattle.base.specs.Bits.{bit-and, bit-mask-of, bit-mask-of-above}
 
 -- ---- the lowest member below n
 -- a mask whose bits below n are those that pass: its lowest member is the first that passes, or lies past n
@@ -52,50 +52,35 @@ module _ (n x : ℕ) (f : ℕ → Bool) (small : n ≤ 16) (same : (p : ℕ) →
           (of-mask .miss (first-from n 0 f) (omega arith) (omega arith))
 
 -- ---- receivers
--- The up receivers of the letters of kind k for m from q, if q is up.
+-- The up receivers of the letters of kind k for m from q.
 unfoldable pub waiting : State → ℕ → ℕ → ℕ → ℕ
-waiting s m k q = pick (is-up s q) (bitAnd (s (flight m k q)) (mask-of (s size) (is-up s))) 0
+waiting s m k q = bitAnd (s (flight m k q)) (mask-of (s size) (is-up s))
 
--- as the code makes it, from the mask u of the up processes
-pub waiting-down : (s : State) (m k q u : ℕ) → u ≡ mask-of (s size) (is-up s) → q < s size → bit u q ≡ false
-    → 0 ≡ waiting s m k q
+-- as the code makes it, from the mask of the up processes
+pub waiting-up : (s : State) (m k q : ℕ) {x u : ℕ} → x ≡ s (flight m k q) → u ≡ mask-of (s size) (is-up s)
+    → bitAnd x u ≡ waiting s m k q
 unfolding waiting
-waiting-down s m k q u e h b =
-    rw (sym (bit-mask-of (s size) (is-up s) q h) ∙ ap (λ (x : ℕ). bit x q) (sym e) ∙ b)
-
-pub waiting-up : (s : State) (m k q u : ℕ) → u ≡ mask-of (s size) (is-up s) → q < s size → bit u q ≡ true
-    → bitAnd (s (flight m k q)) u ≡ waiting s m k q
-unfolding waiting
-waiting-up s m k q u e h b =
-    rw (sym (bit-mask-of (s size) (is-up s) q h) ∙ ap (λ (x : ℕ). bit x q) (sym e) ∙ b)
-    (ap (bitAnd (s (flight m k q))) e)
+waiting-up s m k q ex eu = ap₂ bitAnd ex eu
 
 -- one process more in the mask
 pub mask-more : (n : ℕ) (f : ℕ → Bool) → mask-of (n + 1) f ≡ pick (f n) (with (mask-of n f) n) (mask-of n f)
 unfolding mask-of
 mask-more n f = ap (λ (k : ℕ). mask-of k f) (add-one n)
 
-true-right : (a : Bool) → (a && true) ≡ a
-true-right true = refl
-true-right false = refl
-
-false-right : (a : Bool) → (a && false) ≡ false
-false-right true = refl
-false-right false = refl
-
-waiting-bit : (s : State) (m k q p : ℕ) → p < s size → bit (waiting s m k q) p ≡ moves s m k q p
+-- those that a letter can move to
+pub waiting-bit : (s : State) (m k q p : ℕ) → p < s size → bit (waiting s m k q) p ≡ moves s m k q p
 unfolding waiting moves
-waiting-bit s m k q p h = go (is-up s q) refl
-  where
-    u : ℕ
-    u = mask-of (s size) (is-up s)
+waiting-bit s m k q p h =
+    bit-and (s (flight m k q)) (mask-of (s size) (is-up s)) p
+    ∙ ap (λ (b : Bool). bit (s (flight m k q)) p && b) (bit-mask-of (s size) (is-up s) p h)
 
-    go : (b : Bool) → is-up s q ≡ b
-        → bit (pick b (bitAnd (s (flight m k q)) u) 0) p ≡ (bit (s (flight m k q)) p && b && is-up s p)
-    go true e =
-        bit-and (s (flight m k q)) u p
-        ∙ ap₂ _&&_ (sym (true-right (bit (s (flight m k q)) p))) (bit-mask-of (s size) (is-up s) p h)
-    go false e = bit-zero p ∙ ap (λ (x : Bool). x && is-up s p) (sym (false-right (bit (s (flight m k q)) p)))
+-- and processes only
+pub waiting-above : (s : State) (m k q p : ℕ) → s size ≤ p → bit (waiting s m k q) p ≡ false
+unfolding waiting
+waiting-above s m k q p h =
+    bit-and (s (flight m k q)) (mask-of (s size) (is-up s)) p
+    ∙ ap (λ (b : Bool). bit (s (flight m k q)) p && b) (bit-mask-of-above (s size) (is-up s) p h)
+    ∙ and-false (bit (s (flight m k q)) p)
 
 -- the lowest of them is the receiver, or there is none
 pub receiver-in : (s : State) (m k q r : ℕ) → s size ≤ 16 → r ≡ first-from 16 0 (bit (waiting s m k q))

@@ -1,5 +1,4 @@
-// The search for the lowest letter between two up processes, by message, kind, from, to, from a place before which none
-// stands.
+// The search for the lowest letter to an up process, by message, kind, from, to, from a place before which none stands.
 ghost use mathlib.Core.Path.{_≡_};
 ghost use Prim.Native.Nat.{_≤_, _<_};
 ghost use lib.ListN.{length};
@@ -43,14 +42,11 @@ pub fn up_mask(w: &[u16]) -> u16
     mask
 }
 
-// The up receivers of the letters of kind k for m from q, if q is up.
-fn receivers(w: &[u16], up: u16, m: usize, k: usize, q: usize) -> u16
-    requires { ⌜ (length (now w) ≡ 20480) × (m < 64) × (k < 3) × (q < 16) × (q < view (now w) size) × (up ≡ mask-of (view (now w) size) (is-up (view (now w)))) ⌝ }
+// The up receivers of the letters of kind k for m from q, whether q is up or down.
+pub fn receivers(w: &[u16], up: u16, m: usize, k: usize, q: usize) -> u16
+    requires { ⌜ (length (now w) ≡ 20480) × (m < 64) × (k < 3) × (q < 16) × (up ≡ mask-of (view (now w) size) (is-up (view (now w)))) ⌝ }
     ensures { λ r. ⌜ r ≡ waiting (view (now (w .entry))) m k q ⌝ }
 {
-    if !masks::test(up, q) {
-        return 0;
-    }
     cells::letters(w, m, k, q) & up
 }
 
@@ -61,7 +57,7 @@ pub struct Place {
     pub origin: usize,
 }
 
-// The lowest letter between two up processes, by message, kind, from, to. None stands before the place.
+// The lowest letter to an up process, by message, kind, from, to. None stands before the place.
 pub fn lowest_letter(w: &[u16], up: u16, from: Place) -> Letter
     requires { ⌜ (length (now w) ≡ 20480) × (view (now w) size ≤ 16) × (view (now w) count ≤ 64) × (up ≡ mask-of (view (now w) size) (is-up (view (now w)))) × Passed (view (now w)) from ⌝ }
     ensures { λ r. ⌜ choice-of r ≡ lowest (view (now (w .entry))) ⌝ }

@@ -13,7 +13,7 @@ use lib.Seq.{getD-set-same, getD-set-other}
 use borrow.Author.Tests.{eq-eqb, ne-eqb, eqb-true}
 use Rattle.definitions.specs.General.{some, bit, with, mask-of}
 use Rattle.definitions.specs.World.{State, group}
-use Rattle.base.specs.Tests.{both-l, both-r, both-i, same}
+use Rattle.base.specs.Tests.{both-l, both-r, both-i, same, or-false}
 use Rattle.base.specs.Search.{some-i, some-e}
 use Rattle.base.specs.Bits.{bit-zero, bit-or, bit-mask-of, mask-of-member}
 use Rattle.ranges.specs.Laws.{some-none, some-next}
@@ -60,10 +60,6 @@ members-more s p x v t t′ et l ex hx ev h = record {
 pub joined-none : (t : List ℕ) (to : ℕ) → Joined t to 0 0
 joined-none t to = record { have = λ p. bit-zero p ∙ sym (some-none (λ g. bit to g && bit (getD t g 0) p)) }
 
-or-no : (b : Bool) → b ≡ (b || false)
-or-no true = refl
-or-no false = refl
-
 pub joined-more : (t : List ℕ) (to g r : ℕ) → bit to g ≡ true → Joined t to g r
     → Joined t to (g + 1) (bitOr r (getD t g 0))
 joined-more t to g r e h = record {
@@ -74,7 +70,7 @@ joined-more t to g r e h = record {
 
 pub joined-same : (t : List ℕ) (to g r : ℕ) → bit to g ≡ false → Joined t to g r → Joined t to (g + 1) r
 joined-same t to g r e h = record {
-  have = λ p. h .have p ∙ or-no (some g (λ g. bit to g && bit (getD t g 0) p))
+  have = λ p. h .have p ∙ sym (or-false (some g (λ g. bit to g && bit (getD t g 0) p)))
       ∙ ap (λ (b : Bool). some g (λ g. bit to g && bit (getD t g 0) p) || (b && bit (getD t g 0) p)) (sym e)
       ∙ sym (some-next (λ g. bit to g && bit (getD t g 0) p) g);
 }

@@ -13,7 +13,7 @@ use lib.ListN.{length, getD, set}
 use lib.Seq.{getD-set-same, getD-set-other}
 use borrow.Author.Tests.{eq-eqb, ne-eqb, eqb-true}
 use Rattle.definitions.specs.General.{pick, every, tally, in-at, absent, bit}
-use Rattle.base.specs.Tests.{both, clash, same, and-swap}
+use Rattle.base.specs.Tests.{both, clash, same, and-swap, or-false}
 use Rattle.base.specs.Search.{every-true, every-intro, every-next}
 use Rattle.base.specs.Count.{tally-le, tally-zero, tally-cong, tally-falls, absent-in, in-absent}
 use Rattle.base.specs.Bits.{bit-and}
@@ -82,10 +82,6 @@ unfolding tally
 tally-add zero f g v l h e = absurd (omega arith)
 tally-add (suc n) f g v l h e = go (ℕ-discrete v n) (λ k. tally-add n f g v k (λ i j. h i (omega arith)) e)
   where
-    or-no : (b : Bool) → (b || false) ≡ b
-    or-no true = refl
-    or-no false = refl
-
     last : (b : Bool) (t : ℕ) → pick b (suc (suc t)) (suc t) ≡ suc (pick b (suc t) t)
     last true t = refl
     last false t = refl
@@ -96,10 +92,10 @@ tally-add (suc n) f g v l h e = go (ℕ-discrete v n) (λ k. tally-add n f g v k
         let gn : g n ≡ true = h n (omega arith) ∙ ap₂ _||_ fn (eq-eqb v n d) in
         let same-below : tally n g ≡ tally n f =
         tally-cong n g f (λ i k. h i (omega arith)
-        ∙ ap (λ (b : Bool). f i || b) (ne-eqb v i (λ z. omega arith)) ∙ or-no (f i)) in
+        ∙ ap (λ (b : Bool). f i || b) (ne-eqb v i (λ z. omega arith)) ∙ or-false (f i)) in
         rw (gn, fn) (ap suc same-below)
     go (no d) ih =
-        let gn : g n ≡ f n = h n (omega arith) ∙ ap (λ (b : Bool). f n || b) (ne-eqb v n d) ∙ or-no (f n) in
+        let gn : g n ≡ f n = h n (omega arith) ∙ ap (λ (b : Bool). f n || b) (ne-eqb v n d) ∙ or-false (f n) in
         ap₂ (λ (b : Bool) (t : ℕ). pick b (suc t) t) gn (ih (omega arith)) ∙ last (f n) (tally n f)
 
 -- the different items are those that none before is
@@ -133,15 +129,11 @@ different k (suc n) log low = go (absent n (log n) log) refl (different k n log 
         or-yes true q = refl
         or-yes false q = clash {b = false} q refl
 
-        or-no : (a : Bool) → (a || false) ≡ a
-        or-no true = refl
-        or-no false = refl
-
         at : (i : ℕ) → Dec (log n ≡ i) → (f i || eqb (log n) i) ≡ f i
         at i (yes d) =
             ap (λ (b : Bool). f i || b) (eq-eqb (log n) i d)
             ∙ or-yes (f i) (ap not (ap (λ (m : ℕ). absent n m log) (sym d) ∙ e))
-        at i (no d) = ap (λ (b : Bool). f i || b) (ne-eqb (log n) i d) ∙ or-no (f i)
+        at i (no d) = ap (λ (b : Bool). f i || b) (ne-eqb (log n) i d) ∙ or-false (f i)
 
 -- all pass exactly if n do
 tally-all : (n : ℕ) (f : ℕ → Bool) → ((i : ℕ) → i < n → f i ≡ true) → tally n f ≡ n

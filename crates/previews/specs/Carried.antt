@@ -11,7 +11,7 @@ use Rattle.definitions.specs.General.{gives, reply, sum}
 use Rattle.definitions.specs.World.{size, fifo-length, causal-length, State, encode, view}
 use Rattle.definitions.specs.Setup.{setup-refusal}
 use Rattle.definitions.specs.Steps.{read, refusal, step}
-use Rattle.definitions.specs.History.{Run, Item, run}
+use Rattle.definitions.specs.History.{Item, run}
 use Rattle.definitions.specs.Words.{log-length, preview-refusal, log-growth, NewDeliveries, new-deliveries, preview-reply, on-words, started-words}
 use Rattle.base.specs.Sums.{sum-cong}
 use Rattle.world.specs.SoundLaws.{Sound, size-high}
@@ -20,7 +20,7 @@ use Rattle.world.specs.Runs.{on-states, started}
 use Rattle.keeps.specs.Keeps.{fresh-sound, run-sound}
 use Rattle.carried.specs.Same.{Agree, same}
 use Rattle.carried.specs.Calls.{making-carried, view-agree, step-agree, refusal-carried}
-use Rattle.carried.specs.Carried.{run-carried, start-carried}
+use Rattle.carried.specs.Carried.{words-after}
 
 -- states that agree on the layout have logs of the same lengths
 length-agree : {s t : State} (a : Agree s t) (r : ℕ) (log : Bool) → r < 16 → log-length t r log ≡ log-length s r log
@@ -67,6 +67,4 @@ state-sound setup items taken = run-sound (started setup) items (fresh-sound set
 -- and the words are its words, whatever words were lent
 pub words-of-state : (w setup : List ℕ) (items : List Item) → length w ≡ 20480 → setup-refusal setup ≡ 0
     → run on-words (started-words w setup) items .now ≡ encode (run on-states (started setup) items .now)
-words-of-state w setup items long taken =
-    ap (λ (r : Run (List ℕ)). run on-words r items .now) (start-carried w setup (making-carried w setup long ∙ taken))
-    ∙ ap (λ (r : Run (List ℕ)). r .now) (run-carried (started setup) items (fresh-sound setup taken))
+words-of-state w setup items long taken = words-after w setup (making-carried w setup long ∙ taken) items

@@ -11,10 +11,6 @@ use Rattle.definitions.specs.General.{every, some}
 use Rattle.base.specs.Tests.{both, both-l, both-r, both-i, same}
 use Rattle.base.specs.Search.{every-next, every-true, every-intro}
 
-pub and-false : (a : Bool) → (a && false) ≡ false
-and-false true = refl
-and-false false = refl
-
 -- ---- all below n + k, in two parts
 pub every-split : (n k : ℕ) (f : ℕ → Bool) → every (n + k) f ≡ (every n f && every k (λ i. f (n + i)))
 every-split n k f =

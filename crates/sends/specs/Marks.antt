@@ -13,15 +13,11 @@ use borrow.Author.Tests.{eqb-true, eq-eqb}
 use Rattle.definitions.specs.General.{bit, every, tally}
 use Rattle.definitions.specs.World.{size, trust, marks, State, addressed, outside-fifo}
 use Rattle.definitions.specs.Machine.{addressees, marked}
-use Rattle.base.specs.Tests.{bool-cases, same, both, either}
+use Rattle.base.specs.Tests.{bool-cases, same, both, either, and-false}
 use Rattle.base.specs.Bits.{differs, bit-and, bit-xor, bit-mask-of, bit-mask-of-above}
 use Rattle.base.specs.Search.{every-true, every-intro}
 use Rattle.base.specs.Count.{tally-past, tally-zero, tally-cong, tally-pos}
 use Rattle.index.specs.Index.{Index}
-
-fourth : (a : Bool) → both a false ≡ false
-fourth true = refl
-fourth false = refl
 
 -- the processes that p trusts and has no mark of
 abbrev pub trusted-unmarked : State → ℕ → ℕ → ℕ
@@ -54,7 +50,7 @@ module _ (s : State) (p m : ℕ) where
       er
       ∙ tally-past 16 (s size) (bit a) h
       (λ q l. bits q ∙ ap (both (bit (trusted-unmarked s p m) q)) (bit-mask-of-above (s size) (addressed s m) q l)
-      ∙ fourth (bit (trusted-unmarked s p m) q))
+      ∙ and-false (bit (trusted-unmarked s p m) q))
       ∙ tally-cong (s size) (bit a) (unmarked s p m)
       (λ q l. bits q ∙ ap (both (bit (trusted-unmarked s p m) q)) (bit-mask-of (s size) (addressed s m) q l)
       ∙ unmarked-bits q)

@@ -9,7 +9,7 @@ use borrow.Author.Tests.{eq-eqb, ne-eqb}
 use Rattle.definitions.specs.General.{bit, every, absent}
 use Rattle.definitions.specs.World.{size, trust, fifo-length, held, marks, fifo, State, encode, view, addressed, outside-fifo}
 use Rattle.definitions.specs.Machine.{in-turn, marked, ready}
-use Rattle.base.specs.Tests.{both, either}
+use Rattle.base.specs.Tests.{both, either, and-false}
 use Rattle.base.specs.Search.{every-cong}
 use Rattle.world.specs.Layout.{Reads, get-encode}
 use Rattle.bounds.specs.Bounds.{Bounds, bounds-state}
@@ -54,17 +54,8 @@ ready-law w p m h hp hm q s e =
     q ∙ ap (λ (x : List ℕ). ready (view x) p m) e ∙ ready-words s (bounds-state w s e h) p m hp hm
 
 -- ---- the four tests
-fourth : (a : Bool) → both a false ≡ false
-fourth true = refl
-fourth false = refl
-
 none : (a b c d : Bool) → both (both a b) c ≡ false → false ≡ both (both (both a b) c) d
 none a b c d e = sym (ap (λ (x : Bool). both x d) e)
-
-third : (a b : Bool) → both (both a b) false ≡ false
-third true true = refl
-third true false = refl
-third false b = refl
 
 second : (b d : Bool) → both (both (both true b) true) d ≡ both b d
 second true d = refl
@@ -99,7 +90,7 @@ module _ (s : State) (p m : ℕ) where
 
   pub ready-not-next : in-turn s p m ≡ false → false ≡ ready s p m
   unfolding ready
-  ready-not-next e = none is-held new next-one all (ap (both (both is-held new)) e ∙ third is-held new)
+  ready-not-next e = none is-held new next-one all (ap (both (both is-held new)) e ∙ and-false (both is-held new))
 
   pub ready-cleared : {x : ℕ} {r : Bool} → x ≡ s (held p m) → x ≡ 1 → in-turn s p m ≡ true → r ≡ cleared s p m
       → r ≡ ready s p m
@@ -110,7 +101,7 @@ module _ (s : State) (p m : ℕ) where
 
   -- its marks, and the log
   pub cleared-lacks : every (s size) (marked s p m) ≡ false → false ≡ cleared s p m
-  cleared-lacks e = sym (ap (both new) e ∙ fourth new)
+  cleared-lacks e = sym (ap (both new) e ∙ and-false new)
 
   pub cleared-is : {n : ℕ} {r : Bool} → every (s size) (marked s p m) ≡ true → n ≡ s (fifo-length p)
       → r ≡ absent n m (λ i. s (fifo p i)) → r ≡ cleared s p m

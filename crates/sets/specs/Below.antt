@@ -7,7 +7,7 @@ use native.Mathlib.Omega.{arith}
 use native.Mathlib.Decide.{ℕ-discrete}
 use lib.Dec.{ltb, eqb}
 use borrow.Author.Tests.{lt-ltb, le-ltb, ltb-true, ltb-false, eq-eqb, ne-eqb}
-use Rattle.base.specs.Tests.{both, both-l, both-r, clash, either, le-or-lt}
+use Rattle.base.specs.Tests.{both, both-l, both-r, clash, either, le-or-lt, or-false}
 use Rattle.definitions.specs.General.{pick, bit, with, first-from}
 use Rattle.base.specs.Bits.{bit-zero, bit-with, bit-and, bit-xor, differs}
 use Rattle.base.specs.Search.{first-law}
@@ -23,13 +23,9 @@ one-more k m f (yes e) =
     ∙ sym (ap₂ (λ (a b : Bool). either (both a (f m)) (both b (f m))) (le-ltb m k (omega arith)) (eq-eqb k m e))
 one-more k m f (no d) =
     ap (λ (b : Bool). both b (f m)) (below (ltb m k) refl)
-    ∙ or-no (both (ltb m k) (f m))
+    ∙ sym (or-false (both (ltb m k) (f m)))
     ∙ sym (ap (λ (b : Bool). either (both (ltb m k) (f m)) (both b (f m))) (ne-eqb k m d))
   where
-    or-no : (c : Bool) → c ≡ either c false
-    or-no true = refl
-    or-no false = refl
-
     below : (c : Bool) → ltb m k ≡ c → ltb m (k + 1) ≡ ltb m k
     below true e = lt-ltb m (k + 1) (omega (arith, ltb-true m k e)) ∙ sym e
     below false e = le-ltb m (k + 1) (omega (arith, ltb-false m k e)) ∙ sym e
@@ -54,13 +50,9 @@ has-more set new k f b h eb en m l =
         at (yes d) = ap₂ both (eq-eqb k m d) (ap f (sym d) ∙ e)
         at (no d) = ap (λ (c : Bool). both c (f m)) (ne-eqb k m d)
 
-    or-no : (c : Bool) → c ≡ either c false
-    or-no true = refl
-    or-no false = refl
-
     go : (c : Bool) → c ≡ f k → bit (pick c (with set k) set) m ≡ either (both (ltb m k) (f m)) (both (eqb k m) (f m))
     go true e = bit-with set k m ∙ ap₂ either (h m l) (sym (yes-at (sym e)))
-    go false e = h m l ∙ or-no (both (ltb m k) (f m)) ∙ ap (either (both (ltb m k) (f m))) (sym (no-at (sym e)))
+    go false e = h m l ∙ sym (or-false (both (ltb m k) (f m))) ∙ ap (either (both (ltb m k) (f m))) (sym (no-at (sym e)))
 
 pub has-none : (f : ℕ → Bool) → Has 0 (λ m. both (ltb m 0) (f m))
 has-none f m l = bit-zero m ∙ sym (ap (λ (b : Bool). both b (f m)) (le-ltb m 0 (omega arith)))

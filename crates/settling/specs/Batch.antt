@@ -7,19 +7,18 @@ use mathlib.Core.Logic.{_≢_, _⊎_, inl, inr}
 use Prim.Native.Nat.{ℕ, _+_, _-_, _*_, _^_, _≤_, _<_}
 use native.Mathlib.Omega.{arith}
 use native.Mathlib.Decide.{ℕ-discrete}
-use lib.Bits.{bitAnd}
 use lib.Dec.{eqb, ltb}
 use borrow.Author.Tests.{lt-ltb, le-ltb, ltb-true, eq-eqb}
-use Rattle.definitions.specs.General.{pick, first-from, bit, with, without, mask-of}
-use Rattle.base.specs.Tests.{pick-no, clash, both-l, both-r, both-i, le-or-lt}
+use Rattle.definitions.specs.General.{pick, first-from, bit, with, without}
+use Rattle.base.specs.Tests.{pick-no, clash, both-l, both-r, both-i, le-or-lt, and-false}
 use Rattle.base.specs.Search.{first-law, first-hit}
-use Rattle.base.specs.Bits.{bit-zero, bit-and, bit-mask-of, bit-mask-of-above, without-hit, without-other}
+use Rattle.base.specs.Bits.{bit-zero, without-hit, without-other}
 use Rattle.base.specs.Sets.{lowest-low, without-less}
 use Rattle.bounds.specs.Bounds.{sound-bounds}
 use Rattle.index.specs.Index.{Index, sound-logs}
 use Rattle.arrivals.specs.Arrival.{Silent, marked-of, Arrives, Arrived}
 use Rattle.letters.specs.Places.{Passed, lowest-before, from-message, from-kind, from-origin}
-use Rattle.letters.specs.Search.{lowest-found}
+use Rattle.letters.specs.Search.{waiting, waiting-bit, waiting-above, lowest-found}
 use Rattle.letters.specs.declared.Place.{Place}
 use Rattle.quiescence.specs.Quiescent.{arrival-size, arrival-count, arrival-up}
 use Rattle.settling.specs.Settling.{Going, arrive-words, settling-from, settle-more, rested-known, letter-within}
@@ -90,35 +89,13 @@ module _ (s : State) (k m q mask : ℕ) (h : Passed s (at k m q)) (hq : q < s si
         (lt-ltb (kind s m) 3 (let z = h .kinds in omega (arith, the-kind))))
         hm the-kind the-origin the-receiver
 
--- ---- the receivers of the letter found
-pub receives-found : (s : State) (k m q p : ℕ) {x live mask : ℕ} → lowest s ≡ letter k m q p → s size ≤ 16
-    → live ≡ mask-of (s size) (is-up s) → x ≡ s (flight m k q) → mask ≡ bitAnd x live → Receives s k m q mask
-unfolding moves
-receives-found s k m q p {x} {live} {mask} e few el ex em y hy =
-    ap (λ (v : ℕ). bit v y) (em ∙ ap₂ bitAnd ex el) ∙ bit-and (s (flight m k q)) (mask-of (s size) (is-up s)) y
-    ∙ go (le-or-lt (s size) y)
+-- ---- the receivers, as the code gets them
+pub receives-waiting : (s : State) (k m q : ℕ) {mask : ℕ} → mask ≡ waiting s m k q → Receives s k m q mask
+receives-waiting s k m q e p _ = ap (λ (x : ℕ). bit x p) e ∙ go (le-or-lt (s size) p)
   where
-    q-up : is-up s q ≡ true
-    q-up = eq-eqb (s (up q)) 1 (lowest-moves s k m q p e .from-up)
-
-    no-more : (b : Bool) → (b && false) ≡ false
-    no-more true = refl
-    no-more false = refl
-
-    go : (s size ≤ y) ⊎ (y < s size) → (bit (s (flight m k q)) y && bit (mask-of (s size) (is-up s)) y)
-        ≡ ltb y (s size) && (bit (s (flight m k q)) y && is-up s q && is-up s y)
-    go (inl l) =
-        ap (λ (b : Bool). bit (s (flight m k q)) y && b) (bit-mask-of-above (s size) (is-up s) y l)
-        ∙ no-more (bit (s (flight m k q)) y)
-        ∙ sym (ap (λ (b : Bool). b && (bit (s (flight m k q)) y && is-up s q && is-up s y)) (le-ltb y (s size) l))
-    go (inr l) =
-        ap (λ (b : Bool). bit (s (flight m k q)) y && b) (bit-mask-of (s size) (is-up s) y l)
-        ∙ sym (ap₂ (λ (a b : Bool). a && (bit (s (flight m k q)) y && b && is-up s y)) (lt-ltb y (s size) l) q-up
-        ∙ yes (bit (s (flight m k q)) y))
-      where
-        yes : (b : Bool) → (b && true && is-up s y) ≡ (b && is-up s y)
-        yes true = refl
-        yes false = refl
+    go : (s size ≤ p) ⊎ (p < s size) → bit (waiting s m k q) p ≡ ltb p (s size) && moves s m k q p
+    go (inl l) = waiting-above s m k q p l ∙ sym (ap (λ (b : Bool). b && moves s m k q p) (le-ltb p (s size) l))
+    go (inr l) = waiting-bit s m k q p l ∙ sym (ap (λ (b : Bool). b && moves s m k q p) (lt-ltb p (s size) l))
 
 out-of : (s : State) (k m q p : ℕ) → marked-of s k m q p (flight m k q) ≡ without (s (flight m k q)) p
 unfolding leave mark put
@@ -140,8 +117,7 @@ unfolding moves
 receives-next s t k m q p r mask {next} few same silent l hm hk hq hp en z y hy =
     ap (λ (v : ℕ). bit v y) en ∙ go (ℕ-discrete p y)
     ∙ sym (ap₂ (λ (a : ℕ) (b : Bool). ltb y a && b) (same size tt ∙ arrival-size s k m q p)
-    (ap₂ (λ (a : ℕ) (b : Bool). bit a y && b && is-up t y) left (lives q hq)
-    ∙ ap (λ (b : Bool). bit (without (s (flight m k q)) p) y && is-up s q && b) (lives y hy)))
+    (ap₂ (λ (a : ℕ) (b : Bool). bit a y && b) left (lives y hy)))
   where
     lives : (o : ℕ) → o < 16 → is-up t o ≡ is-up s o
     lives o h = ap (λ (v : ℕ). eqb v 1) (same (up o) h ∙ arrival-up s k m q p o)
@@ -149,21 +125,17 @@ receives-next s t k m q p r mask {next} few same silent l hm hk hq hp en z y hy 
     left : t (flight m k q) ≡ without (s (flight m k q)) p
     left = silent m k q hm hk hq l ∙ out-of s k m q p
 
-    no-more : (b : Bool) → b && false ≡ false
-    no-more true = refl
-    no-more false = refl
-
     go : Dec (p ≡ y) → bit (without mask p) y
-        ≡ ltb y (s size) && (bit (without (s (flight m k q)) p) y && is-up s q && is-up s y)
+        ≡ ltb y (s size) && (bit (without (s (flight m k q)) p) y && is-up s y)
     go (yes d) =
         subst (λ (v : ℕ). bit (without mask p) v
-        ≡ ltb v (s size) && (bit (without (s (flight m k q)) p) v && is-up s q && is-up s v)) d
+        ≡ ltb v (s size) && (bit (without (s (flight m k q)) p) v && is-up s v)) d
         (without-hit mask p
-        ∙ sym (ap (λ (b : Bool). ltb p (s size) && (b && is-up s q && is-up s p)) (without-hit (s (flight m k q)) p)
-        ∙ no-more (ltb p (s size))))
+        ∙ sym (ap (λ (b : Bool). ltb p (s size) && (b && is-up s p)) (without-hit (s (flight m k q)) p)
+        ∙ and-false (ltb p (s size))))
     go (no d) =
         without-other mask p y d ∙ z y hy
-        ∙ ap (λ (b : Bool). ltb y (s size) && (b && is-up s q && is-up s y)) (sym (without-other (s (flight m k q)) p y d))
+        ∙ ap (λ (b : Bool). ltb y (s size) && (b && is-up s y)) (sym (without-other (s (flight m k q)) p y d))
 
 -- the place itself, where it stands
 pub next-same : (k m q r : ℕ) → m * 48 + k * 16 + q ≤ r → next-at k m q r ≡ at k m q
@@ -293,9 +265,7 @@ unfolding moves
 some-receiver s k m q p mask e hp r z =
     let a = lowest-moves s k m q p e in
     clash (r p hp ∙ both-i (ltb p (s size)) (moves s m k q p) (lt-ltb p (s size) (a .letter .to))
-    (both-i (bit (s (flight m k q)) p && is-up s q) (is-up s p)
-    (both-i (bit (s (flight m k q)) p) (is-up s q) (a .letter .flies) (eq-eqb (s (up q)) 1 (a .from-up)))
-    (eq-eqb (s (up p)) 1 (a .to-up))))
+    (both-i (bit (s (flight m k q)) p) (is-up s p) (a .letter .flies) (eq-eqb (s (up p)) 1 (a .live))))
     (ap (λ (y : ℕ). bit y p) z ∙ bit-zero p)
 
 pub batched-first : {w x : List ℕ} {live mask made budget : ℕ} {place : Place} → Going w live mask place → Index (view w) x

@@ -67,7 +67,7 @@ module _ (s t : State) (k m q p r : ℕ) (h : Sound s) (e : lowest s ≡ letter 
       let few = size-high s h in
       let q16 = moving .from in
       let k3 = moving .kind in
-      unmoved s t k m q p h same x j o y (omega arith) (omega arith)
+      unmoved s t k m q p h same x j o y (omega arith)
       (silent x j o hx hj (omega arith) b ∙ letters-of-mark x j o a)
       (lowest-before s k m q p e x j o y before hj ho hy)
     where

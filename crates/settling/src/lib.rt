@@ -1,6 +1,6 @@
-// Settle: arrivals one after the other, each of the lowest letter between two up processes. The letters of one place go
-// to its receivers in a batch, as long as none sends a letter at that place or below; then the search goes on from there.
-// The processes at which a letter has arrived are known to be quiescent.
+// Settle: arrivals one after the other, each of the lowest letter to an up process. The letters of one place go to its
+// receivers in a batch, as long as none sends a letter at that place or below; then the search goes on from there. The
+// processes at which a letter has arrived are known to be quiescent.
 use definitions::Settling;
 use letters::Letter;
 use letters::Place;
@@ -109,7 +109,7 @@ pub fn settle_sound(w: &mut [u16], x: &mut [u64], budget: u32) -> Settling
         let Letter::At(k, m, q, p) = letters::lowest_letter(w, up, place) else {
             return Settling::Done(made);
         };
-        let receivers = cells::letters(w, m, k, q) & up;
+        let receivers = letters::receivers(w, up, m, k, q);
         let b = batch(w, x, up, k, m, q, receivers, quiescent, made, budget);
         quiescent = b.quiescent;
         let at = b.place;

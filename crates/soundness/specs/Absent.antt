@@ -11,9 +11,9 @@ use borrow.Author.Tests.{le-ltb}
 use Rattle.definitions.specs.World.{Cell, size, count, rule, group, trust, counter, sequence, next, delivered, up, fifo-length, causal-length, held, marks, fifo, causal, sender, mask, stamp, number, flight, order, unused, addr, cell-at, view, is-process, is-message}
 use Rattle.definitions.specs.Sound.{word, fit, fine}
 use Rattle.base.specs.Search.{every-cong}
+use Rattle.base.specs.Tests.{and-false}
 use Rattle.world.specs.Layout.{Within, addr-cell-at, within-cell-at}
 use Rattle.ranges.specs.Ranges.{zeros-at}
-use Rattle.ranges.specs.Laws.{and-false}
 use Rattle.regions.specs.Runs.{fine-run}
 
 idle : (b : Bool) (x : ℕ) (t : Bool) → b ≡ false → word b x t ≡ eqb x 0

@@ -1,10 +1,11 @@
 -- Laws of settle: two settles over related states take the same letters, end in related states and answer
--- the same; what each arrival keeps, a settle keeps. Assumes nothing.
+-- the same; what each arrival keeps, a settle keeps; what its answer says of the choice. Assumes nothing.
 use mathlib.Core.Path.{_≡_, refl, ap, subst}
 use Prim.Native.Nat.{ℕ, zero, suc, _+_}
+use native.Mathlib.Omega.{arith}
 use Rattle.definitions.specs.World.{State}
 use Rattle.definitions.specs.Machine.{arrival}
-use Rattle.definitions.specs.Settle.{Choice, letter, nothing, done, stopped, Settled, lowest, settle-from}
+use Rattle.definitions.specs.Settle.{Choice, letter, nothing, Ending, done, stopped, Settled, lowest, settle-from}
 
 -- Settle on a state, with a budget and document 01's choice.
 unfoldable pub settle : State → ℕ → Settled State
@@ -59,3 +60,46 @@ module _ {S : Type 0} (choose : S → Choice) (arrive : S → ℕ → ℕ → �
       (λ x y k m q p r e. (ap (λ (z : S). arrive z k m q p) (r .0), keep x k m q p e (r .1))) b n s s
       (refl, h)
       .worlds .1
+
+-- ---- what an answer says of the choice that is left, where at most b arrivals were allowed: done, that it names nothing;
+-- stopped, that all are made and it names a letter
+pub data NamesLetter : Choice → Type 0 where
+  names-letter : (k m q p : ℕ) → NamesLetter (letter k m q p)
+
+abbrev pub Says : ℕ → Choice → Ending → Type 0
+Says b c (done i) = c ≡ nothing
+Says b c (stopped i) = (i ≡ b) × NamesLetter c
+
+module _ {S : Type 0} (choose : S → Choice) (arrive : S → ℕ → ℕ → ℕ → ℕ → S) where
+  abbrev Tells : ℕ → Settled S → Type 0
+  Tells b u = Says b (choose (u .world)) (u .ending)
+
+  tells-same : (a b : ℕ) (u : Settled S) → a ≡ b → Tells a u → Tells b u
+  tells-same a b u e = subst (λ (x : ℕ). Tells x u) e
+
+  pub settle-says : (b n : ℕ) (s : S) → Tells (n + b) (settle-from choose arrive b n s)
+  unfolding settle-from
+  settle-says zero n s = go (choose s) refl
+    where
+      at-end : Choice → Settled S
+      at-end c =
+          elim c [
+            | letter k m q p ↦ record { world = s; ending = stopped n }
+            | nothing ↦ record { world = s; ending = done n }
+          ]
+
+      go : (c : Choice) → choose s ≡ c → Tells (n + 0) (at-end c)
+      go (letter k m q p) e = (omega arith, rw e (names-letter k m q p))
+      go nothing e = e
+  settle-says (suc b) n s = go (choose s) refl (λ k m q p. settle-says b (n + 1) (arrive s k m q p))
+    where
+      more : ℕ → ℕ → ℕ → ℕ → Settled S
+      more k m q p = settle-from choose arrive b (n + 1) (arrive s k m q p)
+
+      goes-on : Choice → Settled S
+      goes-on c = elim c [ letter k m q p ↦ more k m q p | nothing ↦ record { world = s; ending = done n } ]
+
+      go : (c : Choice) → choose s ≡ c → ((k m q p : ℕ) → Tells (n + 1 + b) (more k m q p))
+          → Tells (n + suc b) (goes-on c)
+      go (letter k m q p) e ih = tells-same (n + 1 + b) (n + suc b) (more k m q p) (omega arith) (ih k m q p)
+      go nothing e ih = e

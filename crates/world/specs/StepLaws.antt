@@ -10,7 +10,7 @@ use Rattle.definitions.specs.General.{first-from, bit}
 use Rattle.definitions.specs.World.{size, count, up, flight, State, is-process, is-message}
 use Rattle.definitions.specs.Steps.{multicasts, arrives, loses, trusts, crashes, good-mask, is-up, in-flight, good-trust, refusal, accepted}
 use Rattle.definitions.specs.Settle.{Choice, letter, nothing, moves, receiver, origin, kind, movable, letter-of, lowest}
-use Rattle.base.specs.Tests.{both, both-l, both-r, both-i}
+use Rattle.base.specs.Tests.{both-l, both-r, both-i}
 use Rattle.base.specs.Refusals.{needs-none}
 use Rattle.base.specs.Search.{first-law}
 
@@ -116,24 +116,19 @@ miss : (n : ℕ) (f : ℕ → Bool) → ltb (first-from n 0 f) n ≡ false → (
 miss n f e i h =
     let l = ltb-false (first-from n 0 f) n e in first-law n 0 f .miss i (omega arith) (omega arith)
 
-pub record Moves (s : State) (k m q p : ℕ) : Type 0 where
-  pub letter : InFlight s k m q p
-  pub from-up : s (up q) ≡ 1
-  pub to-up : s (up p) ≡ 1
-
--- its arrival is taken
-pub moves-taken : (s : State) (k m q p : ℕ) → Moves s k m q p → accepted s (arrives k m q p) ≡ true
+-- a letter in flight to an up process: its arrival is taken
+pub moves-taken : (s : State) (k m q p : ℕ) → Arrives s k m q p → accepted s (arrives k m q p) ≡ true
 unfolding refusal
 moves-taken s k m q p a =
     let l = a .letter in
     let sizes : (is-process s q && is-process s p) ≡ true =
     both-i (is-process s q) (is-process s p) (lt-ltb q (s size) (l .from)) (lt-ltb p (s size) (l .to)) in
-    let alive : is-up s p ≡ true = eq-eqb (s (up p)) 1 (a .to-up) in
+    let alive : is-up s p ≡ true = eq-eqb (s (up p)) 1 (a .live) in
     rw (lt-ltb k 3 (l .kind), sizes, lt-ltb m (s count) (l .message), alive, l .flies)
 
 -- a letter that moves, or none that does
 abbrev pub Chosen : State → Choice → Type 0
-Chosen s (letter k m q p) = Moves s k m q p
+Chosen s (letter k m q p) = Arrives s k m q p
 Chosen s nothing = (k m q p : ℕ) → k < 3 → m < s count → q < s size → p < s size → moves s m k q p ≡ false
 
 letter-moves : (s : State) (m : ℕ) → ltb m (s count) ≡ true → movable s m ≡ true → Chosen s (letter-of s m)
@@ -145,17 +140,15 @@ letter-moves s m hm hk =
     let b = hit (s size) (λ q. ltb (receiver s m k q) (s size)) a in
     let p : ℕ = receiver s m k q in
     let c = hit (s size) (moves s m k q) b in
-    let d = both-l (both (in-flight s k m q p) (is-up s q)) (is-up s p) c in
     record {
       letter = record {
         kind = ltb-true k 3 hk;
         message = ltb-true m (s count) hm;
         from = ltb-true q (s size) a;
         to = ltb-true p (s size) b;
-        flies = both-l (in-flight s k m q p) (is-up s q) d;
+        flies = both-l (in-flight s k m q p) (is-up s p) c;
       };
-      from-up = eqb-true (s (up q)) 1 (both-r (in-flight s k m q p) (is-up s q) d);
-      to-up = eqb-true (s (up p)) 1 (both-r (both (in-flight s k m q p) (is-up s q)) (is-up s p) c);
+      live = eqb-true (s (up p)) 1 (both-r (in-flight s k m q p) (is-up s p) c);
     }
 
 none-moves : (s : State) → ltb (first-from (s count) 0 (movable s)) (s count) ≡ false → Chosen s nothing
@@ -178,5 +171,5 @@ lowest-chosen s = go (ltb m (s count)) refl
     go true e = letter-moves s m e (hit (s count) (movable s) e)
     go false e = none-moves s e
 
-pub lowest-moves : (s : State) (k m q p : ℕ) → lowest s ≡ letter k m q p → Moves s k m q p
+pub lowest-moves : (s : State) (k m q p : ℕ) → lowest s ≡ letter k m q p → Arrives s k m q p
 lowest-moves s k m q p e = subst (Chosen s) e (lowest-chosen s)

@@ -35,6 +35,7 @@ pub fn run(case: &str, side: &Side, processes: usize, messages: usize) -> Option
         "release" => release(side, &setup, messages),
         "step" => public_steps(side, &setup),
         "settle" => (side.settle)(&mut flying(&setup, messages)) as usize,
+        "settle-dead" => (side.settle)(&mut three_dead(&setup, messages)) as usize,
         "count" => (side.count)(&run_journal(&setup)),
         "replay" => (side.replay)(&mut words, &run_journal(&setup)) as usize + 1,
         "count-full" => (side.count)(FULL),
@@ -66,7 +67,17 @@ fn flying(setup: &[u8], messages: usize) -> Vec<u16> {
     words
 }
 
-/// The same, settled.
+/// The same with the last three processes crashed: the letters from them and to them are left in flight.
+fn three_dead(setup: &[u8], messages: usize) -> Vec<u16> {
+    let mut words = flying(setup, messages);
+    let processes = usize::from(setup[1]);
+    for process in processes - 3..processes {
+        calls::step(&mut words, &record::crash(process)).expect("a crash is taken");
+    }
+    words
+}
+
+/// All first letters in flight, settled.
 fn full(setup: &[u8], messages: usize) -> Vec<u16> {
     let mut words = flying(setup, messages);
     calls::settle(&mut words, u32::MAX).expect("a sound world");

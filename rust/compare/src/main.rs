@@ -59,7 +59,13 @@ const AREAS: [Area; 8] = [
         cover: waiting::COVER,
         weight: 100,
     },
-    Area { name: "settle", input: world::settles, answers: world::SETTLE_ANSWERS, cover: &[], weight: 100 },
+    Area {
+        name: "settle",
+        input: world::settles,
+        answers: world::SETTLE_ANSWERS,
+        cover: world::SETTLE_COVER,
+        weight: 100,
+    },
     Area { name: "replay", input: world::replays, answers: world::REPLAY_ANSWERS, cover: &[], weight: 20 },
     Area { name: "program", input: program::input, answers: program::ANSWERS, cover: &[], weight: 200 },
 ];

@@ -11,7 +11,7 @@ use inputs::{Start, SLICE_KINDS, SLICE_LENGTHS};
 use reference::random::Random;
 use reference::sample::{self, Weights, CALM, FLOOD, RACE, STORM, WRONG};
 use reference::words::{encode, order_place, WORDS};
-use reference::world::{World, MESSAGES};
+use reference::world::{Letter, World, MESSAGES};
 
 /// The words that are changed one by one in one input, and the order words.
 const CHANGED: usize = 32;
@@ -66,7 +66,19 @@ pub const PREVIEW_COVER: &[(&str, usize)] = &[
     ("answer of the step where the second slice has a wrong length", 12),
 ];
 
-pub const SETTLE_ANSWERS: &[(&str, &[u32])] = &[("settle, done", &[0]), ("settle, stopped", &[0])];
+pub const SETTLE_ANSWERS: &[(&str, &[u32])] = &[
+    ("settle, done", &[0]),
+    ("settle, stopped", &[0]),
+    ("settle, done after a letter of a dead sender", &[0]),
+    ("settle, stopped before letters of dead senders alone", &[0]),
+    ("settle, done with letters left to a process that is down", &[0]),
+];
+/// Each is met in worlds that steps reached and in others, the first with every kind of letter.
+pub const SETTLE_COVER: &[(&str, usize)] = &[
+    ("start and kind, done after a letter of a dead sender", 3 * STARTS.len()),
+    ("start, stopped before letters of dead senders alone", STARTS.len()),
+    ("start, done with letters left to a process that is down", STARTS.len()),
+];
 pub const REPLAY_ANSWERS: &[(&str, &[u32])] = &[("replay", &[0, 1, 3, 13, 14, 15])];
 
 const STARTS: [Start; 2] = [Start::Fresh, Start::Sound];
@@ -199,8 +211,12 @@ pub fn previews(index: u64, random: &mut Random, tally: &mut Tally) -> Result<()
 }
 
 /// A settle of a world with a budget about what it needs.
-pub fn settles(_: u64, random: &mut Random, tally: &mut Tally) -> Result<(), Difference> {
-    let world = inputs::world(random, &STARTS);
+pub fn settles(index: u64, random: &mut Random, tally: &mut Tally) -> Result<(), Difference> {
+    let start = index as usize % STARTS.len();
+    let mut world = inputs::world(random, &[STARTS[start]]);
+    if random.one_in(2) {
+        inputs::crashes(random, &mut world);
+    }
     let needed = world.clone().settle(u32::MAX).arrivals;
     let (kind, budget) = match random.below(6) {
         0 => ("settle, none allowed", 0),
@@ -210,7 +226,35 @@ pub fn settles(_: u64, random: &mut Random, tally: &mut Tally) -> Result<(), Dif
         _ => ("settle, any budget", random.below(needed as usize + 10) as u32),
     };
     tally.input(kind);
-    calls::settle(&Lent::holding(random, &encode(&world)), budget, tally)
+    calls::settle(&Lent::holding(random, &encode(&world)), budget, tally)?;
+    note_settle(&world, budget, start, tally);
+    Ok(())
+}
+
+/// Notes a settle by the letters with one end down: those that it moves, those before which it stops, those that it
+/// leaves.
+fn note_settle(world: &World, budget: u32, start: usize, tally: &mut Tally) {
+    let mut after = world.clone();
+    let done = after.settle(budget).done;
+    let up = |process: usize| world.processes[process].up;
+    let of_dead = |letter: &Letter| !up(letter.from) && up(letter.to);
+    if done && world.flight.iter().any(of_dead) {
+        tally.answer("settle, done after a letter of a dead sender", 0);
+        for letter in world.flight.iter().filter(|letter| of_dead(letter)) {
+            tally.cover(
+                "start and kind, done after a letter of a dead sender",
+                3 * start + letter.kind as usize,
+            );
+        }
+    }
+    if !done && after.flight.iter().all(|letter| of_dead(letter) || !up(letter.to)) {
+        tally.answer("settle, stopped before letters of dead senders alone", 0);
+        tally.cover("start, stopped before letters of dead senders alone", start);
+    }
+    if done && !after.flight.is_empty() {
+        tally.answer("settle, done with letters left to a process that is down", 0);
+        tally.cover("start, done with letters left to a process that is down", start);
+    }
 }
 
 /// A journal with its kind.

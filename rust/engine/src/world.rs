@@ -107,9 +107,21 @@ impl World {
         Ok((World { words }, previewed))
     }
 
-    /// Makes at most so many arrivals, each of the lowest letter between two up processes. They are no records of a
-    /// journal: if you keep one, take as a step, again and again, the arrival of the first of [`World::letters`] with
-    /// both ends up. That leaves the same words.
+    /// Makes at most so many arrivals, each of the lowest letter whose receiver is up, from a process up or down. Once
+    /// it is done, nothing is left to come to a process that is up. Its arrivals are no records of a journal: if you
+    /// keep one, take as a step, again and again, the arrival of the first of [`World::letters`] whose receiver is up.
+    /// That leaves the same words.
+    ///
+    /// ```
+    /// use engine::{Settled, Step, World, SETTLE_ALL};
+    ///
+    /// let mut world = World::new(&[0, 1])?;
+    /// world.step(Step::multicast(0, &[1])?)?;
+    /// world.step(Step::crash(0))?;
+    /// assert_eq!(world.settle(SETTLE_ALL), Settled { arrivals: 2, done: true });
+    /// assert_eq!(world.causal_log(1)?, [0]);
+    /// # Ok::<(), engine::Refusal>(())
+    /// ```
     pub fn settle(&mut self, budget: u32) -> Settled {
         settle(&mut self.words, budget).expect("the words of a World are sound")
     }
@@ -226,14 +238,15 @@ pub fn preview(world: &[u16], step: &[u8], second: &mut [u16]) -> Result<Preview
     Ok(Previewed { fifo, causal })
 }
 
-/// The number of arrivals that a settle made, and whether it is done or was stopped by its budget.
+/// The number of arrivals that a settle made, and whether it is done or was stopped by its budget, with a letter left
+/// whose receiver is up.
 #[derive(Clone, Copy, Debug, PartialEq, Eq)]
 pub struct Settled {
     pub arrivals: u32,
     pub done: bool,
 }
 
-/// Makes at most so many arrivals, each of the lowest letter between two up processes. Refusals 1, 2.
+/// Makes at most so many arrivals, each of the lowest letter whose receiver is up. Refusals 1, 2.
 pub fn settle(world: &mut [u16], budget: u32) -> Result<Settled, Refusal> {
     let (mut arrivals, mut done) = (0, 0);
     Refusal::check(raw::settle(world, budget, &mut arrivals, &mut done))?;

@@ -1,6 +1,6 @@
 //! What whoever runs a mill has to know: what to carry, what to keep, and when a world or a journal is full.
 
-use engine::{journal, raw, Letter, LetterKind, Previewed, Record, Refusal, Setup, Step, World};
+use engine::{journal, raw, Letter, LetterKind, Previewed, Record, Refusal, Settled, Setup, Step, World};
 use engine::{MESSAGES, PROCESSES, SETTLE_ALL, WORDS};
 
 /// A world and the records that led to it.
@@ -24,10 +24,9 @@ impl Mill {
         self.take(Step::multicast(process, groups).unwrap());
     }
 
-    /// The lowest letter with both ends up.
+    /// The lowest letter whose receiver is up.
     fn lowest(&self) -> Option<Letter> {
-        let world = &self.world;
-        world.letters().into_iter().find(|letter| world.is_up(letter.from) && world.is_up(letter.to))
+        self.world.letters().into_iter().find(|letter| self.world.is_up(letter.to))
     }
 
     /// Takes the lowest letters as arrivals, one by one, while there are any: how many.
@@ -75,14 +74,34 @@ fn busy_mill() -> Mill {
 fn the_arrivals_of_a_settle_taken_as_steps_are_in_the_journal() {
     let mut mill = busy_mill();
     let before = mill.journal();
+    let of_crashed =
+        |mill: &Mill| mill.world.letters().iter().any(|letter| letter.from == 4 && letter.to != 4);
+    assert!(of_crashed(&mill));
     let mut settled = mill.world.clone();
     let answer = settled.settle(SETTLE_ALL);
     assert!(answer.done && answer.arrivals > 50, "{answer:?}");
     assert_eq!(mill.carry(), answer.arrivals);
-    assert!(!mill.world.letters().is_empty(), "letters of the crashed process are left");
+    assert!(!of_crashed(&mill), "its letters have come");
+    let left = mill.world.letters();
+    assert!(!left.is_empty() && left.iter().all(|letter| letter.to == 4), "letters to it are left");
     assert_eq!(mill.world.words(), settled.words());
     assert_eq!(replayed(&mill.journal()).words(), settled.words());
     assert_ne!(replayed(&before).words(), settled.words());
+}
+
+#[test]
+fn a_settle_that_is_stopped_leaves_what_as_many_arrivals_leave() {
+    let mut mill = busy_mill();
+    let start = mill.world.clone();
+    let mut arrivals = 0;
+    while let Some(letter) = mill.lowest() {
+        let mut stopped = start.clone();
+        assert_eq!(stopped.settle(arrivals), Settled { arrivals, done: false });
+        assert_eq!(stopped.words(), mill.world.words());
+        mill.take(Step::Arrival(letter));
+        arrivals += 1;
+    }
+    assert_eq!(start.clone().settle(arrivals), Settled { arrivals, done: true });
 }
 
 #[test]
@@ -105,10 +124,53 @@ fn a_letter_of_a_crashed_sender_may_still_arrive_and_lead_to_a_delivery() {
     let mut mill = Mill::new(&[0, 1]);
     mill.multicast(0, &[1]);
     mill.take(Step::crash(0));
-    assert_eq!(mill.world.clone().settle(SETTLE_ALL).arrivals, 0, "a settle leaves it in flight");
+    let mut settled = mill.world.clone();
+    assert_eq!(settled.settle(SETTLE_ALL).arrivals, 2, "a settle takes its arrival too");
     mill.take(Step::arrival(LetterKind::First, 0, 0, 1));
     mill.take(Step::arrival(LetterKind::Ok, 0, 1, 1));
     assert_eq!(mill.causal_log(1), [0]);
+    assert_eq!(mill.world, settled);
+}
+
+/// The office sends a recipe to the mixer, process 1, and dies. Once a settle says done, nothing is left to come.
+#[test]
+fn after_a_settle_the_last_letter_of_a_crashed_sender_has_come() {
+    let mut mill = Mill::new(&[0, 1, 2]);
+    mill.multicast(0, &[1]);
+    mill.take(Step::crash(0));
+    for budget in 0..2 {
+        assert_eq!(mill.world.clone().settle(budget), Settled { arrivals: budget, done: false });
+    }
+    assert_eq!(mill.world.settle(SETTLE_ALL), Settled { arrivals: 2, done: true });
+    assert_eq!((mill.world.fifo_log(1), mill.world.causal_log(1)), (Ok(&[0][..]), Ok(&[0][..])));
+    assert!(mill.world.letters().is_empty());
+}
+
+/// A settle with budget 0 moves nothing and says done just when no letter is in flight to a process that is up.
+#[test]
+fn a_settle_with_budget_0_tells_whether_anything_is_to_come() {
+    let mut mill = busy_mill();
+    while let Some(letter) = mill.lowest() {
+        let before = mill.world.clone();
+        assert_eq!(mill.world.settle(0), Settled { arrivals: 0, done: false });
+        assert_eq!(mill.world, before);
+        mill.take(Step::Arrival(letter));
+    }
+    assert!(!mill.world.letters().is_empty(), "letters to a process that is down");
+    assert_eq!(mill.world.settle(0), Settled { arrivals: 0, done: true });
+}
+
+#[test]
+fn a_settle_moves_no_letter_to_a_crashed_receiver_and_none_that_was_lost() {
+    let mut mill = Mill::new(&[0, 1, 1]);
+    mill.multicast(0, &[1]);
+    mill.take(Step::crash(0));
+    mill.take(Step::crash(1));
+    mill.take(Step::loss(LetterKind::First, 0, 0, 2));
+    let before = mill.world.clone();
+    assert_eq!(mill.world.settle(SETTLE_ALL), Settled { arrivals: 0, done: true });
+    assert_eq!(mill.world, before);
+    assert_eq!(mill.world.letters().len(), 1, "the one to process 1");
 }
 
 #[test]

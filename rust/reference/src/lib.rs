@@ -1,5 +1,5 @@
-//! The second implementation of document 01 and of cards 1 and 2 of document 02, written from the papers for clarity, to be
-//! held against the archive.
+//! The second implementation of document 01 and of cards 1, 2 and 4 of document 02, written from the papers for
+//! clarity, to be held against the archive.
 
 #![forbid(unsafe_code)]
 

@@ -1,11 +1,12 @@
-//! Document 01, "Precedence, trust rule, settle": arrivals of the lowest letters, within a budget.
+//! Document 01, "Precedence, trust rule, settle", as card 4 of document 02 amends it: arrivals of the lowest letters
+//! whose receivers are up, from origins up or down, within a budget.
 
 use crate::world::{Letter, World};
 
 #[derive(Clone, Copy, Debug, PartialEq, Eq)]
 pub struct Settled {
     pub arrivals: u32,
-    /// Done, or else stopped: the budget is used and a letter between two up processes remains.
+    /// Done, or else stopped: the budget is used and a letter whose receiver is up remains.
     pub done: bool,
 }
 
@@ -22,9 +23,8 @@ impl World {
         Settled { arrivals, done: true }
     }
 
-    /// The lowest letter in flight between two up processes.
+    /// The lowest letter in flight whose receiver is up.
     fn lowest_letter(&self) -> Option<Letter> {
-        let up = |process: usize| self.processes[process].up;
-        self.flight.iter().copied().find(|letter| up(letter.from) && up(letter.to))
+        self.flight.iter().copied().find(|letter| self.processes[letter.to].up)
     }
 }

@@ -8,7 +8,7 @@ use reference::record::{crash, trust};
 use reference::sample::{self, Weights, CALM, FLOOD, RACE, STORM, WRONG};
 use reference::world::World;
 use support::history::{History, Precedence};
-use support::{agreed, BUDGET};
+use support::{agreed, letters, BUDGET};
 
 /// Conclusions 1 and 2.
 fn check_order(world: &World, precedence: &Precedence) {
@@ -34,12 +34,6 @@ fn check_order(world: &World, precedence: &Precedence) {
 /// Conclusion 3: a settle says done, and then the FIFO logs agree.
 fn agreement(world: &mut World) -> bool {
     world.settle(BUDGET).done && agreed(world)
-}
-
-/// The letters that the messages so far can cause.
-fn letters(world: &World) -> u32 {
-    let count = |m: usize| (0..world.processes.len()).filter(|&q| world.is_addressee(m, q)).count() as u32;
-    (0..world.messages.len()).map(|m| count(m) + 2 * count(m) * count(m)).sum()
 }
 
 fn weights(random: &mut Random) -> Weights {
@@ -126,7 +120,7 @@ fn trusted_run(random: &mut Random, world: &mut World, history: &mut History, li
 
 #[test]
 fn agreement_where_the_trust_rule_held() {
-    let mut delivered = 0;
+    let (mut delivered, mut of_down) = (0, 0);
     for run in 0..1_500 {
         let random = &mut Random::new(33, run);
         let most = if run % 8 == 0 { 16 } else { 6 };
@@ -135,6 +129,7 @@ fn agreement_where_the_trust_rule_held() {
         let live: Vec<bool> = world.processes.iter().map(|_| !random.one_in(3)).collect();
         trusted_run(random, &mut world, &mut history, &live);
         assert!(history.trust_rule(&world), "the run keeps the trust rule");
+        of_down += usize::from(world.flight.iter().any(|letter| !live[letter.from] && live[letter.to]));
         let bound = letters(&world);
         assert!(world.clone().settle(bound).done, "the letters bound the arrivals");
         assert!(agreement(&mut world), "run {run}");
@@ -143,6 +138,7 @@ fn agreement_where_the_trust_rule_held() {
         delivered += world.processes.iter().map(|process| process.fifo_log.len()).sum::<usize>();
     }
     assert!(delivered > 10_000, "{delivered} FIFO deliveries");
+    assert!(of_down > 300, "{of_down} settles with a letter of a process that is down to one that is up");
 }
 
 #[test]

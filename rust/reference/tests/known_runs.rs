@@ -1,4 +1,4 @@
-//! Document 01, "Known runs".
+//! Document 01, "Known runs", and the run of card 4 of document 02.
 
 mod support;
 
@@ -106,6 +106,27 @@ fn run_8_crash_twice() {
     let mut world = fresh(&[0]);
     take(&mut world, &[crash(0)]);
     refused(&mut world, &crash(0), Refusal::Down);
+}
+
+/// Process 0 multicasts to process 1 and crashes: its letter still comes, and nothing more is to come.
+#[test]
+fn request_4_the_dead_senders_last_letter() {
+    let mut world = fresh(&[0, 1, 2]);
+    take(&mut world, &[multicast(0, 2), crash(0)]);
+    let mut expected = world.clone();
+    assert_eq!(world.settle(33_792), Settled { arrivals: 2, done: true });
+    take(&mut expected, &[arrival(0, 0, 0, 1), arrival(2, 0, 1, 1)]);
+    assert_eq!(world, expected);
+    assert_eq!(logs(&world, 1), (&[0][..], &[0][..]));
+    assert!(world.flight.is_empty());
+}
+
+#[test]
+fn request_4_a_letter_already_lost_is_gone() {
+    let mut world = fresh(&[0, 1, 2]);
+    take(&mut world, &[multicast(0, 2), crash(0), loss(0, 0, 0, 1)]);
+    assert_eq!(world.settle(33_792), Settled { arrivals: 0, done: true });
+    assert_eq!(logs(&world, 1), (&[][..], &[][..]));
 }
 
 #[test]

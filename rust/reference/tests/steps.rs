@@ -109,19 +109,39 @@ fn loss_only_takes_the_letter() {
     assert_eq!(world, expected);
 }
 
+/// Processes 1 and 3 are down. The lowest letter is to process 1, and the next one from process 3.
 #[test]
-fn settle_takes_the_lowest_letter_between_up_processes() {
-    let mut world = fresh(&[0, 0, 1]);
-    take(&mut world, &[multicast(2, 1), multicast(0, 1), crash(2)]);
+fn settle_takes_the_lowest_letter_whose_receiver_is_up() {
+    let mut world = fresh(&[0, 1, 1, 2]);
+    take(&mut world, &[multicast(3, 2), multicast(0, 2), crash(1), crash(3)]);
     let mut expected = world.clone();
     assert_eq!(world.settle(1), Settled { arrivals: 1, done: false });
-    take(&mut expected, &[arrival(0, 1, 0, 0)]);
-    assert_eq!(world, expected, "not message 0, whose sender is down");
+    take(&mut expected, &[arrival(0, 0, 3, 2)]);
+    assert_eq!(world, expected, "not message 1, whose sender is up");
     assert_eq!(world.settle(0), Settled { arrivals: 0, done: false });
     assert_eq!(world, expected);
-    assert_eq!(world.clone().settle(5), Settled { arrivals: 5, done: true });
-    assert_eq!(world.settle(100), Settled { arrivals: 5, done: true });
-    assert_eq!(world.flight, flight(&[(0, 0, 2, 0), (0, 0, 2, 1)]));
+    assert_eq!(world.clone().settle(3), Settled { arrivals: 3, done: true });
+    assert_eq!(world.settle(100), Settled { arrivals: 3, done: true });
+    take(&mut expected, &[arrival(2, 0, 2, 2), arrival(0, 1, 0, 2), arrival(2, 1, 2, 2)]);
+    assert_eq!(world, expected);
+    let to_process_1 = [(0, 0, 3, 1), (0, 1, 0, 1), (2, 0, 2, 1), (2, 1, 2, 1)];
+    assert_eq!(world.flight, flight(&to_process_1), "left, since it is down");
+}
+
+/// After two arrivals one letter is left, from process 0, which is down.
+#[test]
+fn settle_stops_before_a_letter_of_a_process_that_is_down() {
+    let mut world = fresh(&[0, 1]);
+    take(&mut world, &[multicast(0, 2), multicast(0, 2), crash(0)]);
+    for budget in 0..4 {
+        assert_eq!(world.clone().settle(budget), Settled { arrivals: budget, done: false });
+    }
+    assert_eq!(world.clone().settle(4), Settled { arrivals: 4, done: true });
+    assert_eq!(world.settle(2), Settled { arrivals: 2, done: false });
+    assert_eq!(world.flight, flight(&[(0, 1, 0, 1)]));
+    assert_eq!(world.settle(0), Settled { arrivals: 0, done: false });
+    assert_eq!(world.settle(3), Settled { arrivals: 2, done: true });
+    assert_eq!(logs(&world, 1), (&[0, 1][..], &[0, 1][..]));
 }
 
 /// Both messages held at process 1, with the same sequence number at group 1, and message 0 in turn.

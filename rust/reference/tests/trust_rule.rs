@@ -83,6 +83,18 @@ fn kept_a_message_may_be_in_no_log() {
     }
 }
 
+/// Process 0 crashes, and its letter to 2 is lost. The one to 1 still comes, and 1 tells 2.
+#[test]
+fn kept_the_last_letter_of_a_crashed_process_brings_its_message_to_every_live_addressee() {
+    let lost = support::loss(0, 0, 0, 2);
+    let trusts = [trust(1, 0b110), trust(2, 0b110)];
+    let records = [setup(&[0, 1, 1]), multicast(0, 0b10), crash(0), lost, trusts[0], trusts[1]];
+    let (mut world, kept) = run(&records);
+    assert!(kept);
+    assert!(world.settle(BUDGET).done && world.flight.is_empty());
+    assert_eq!((logs(&world, 1).0, logs(&world, 2).0), (&[0][..], &[0][..]));
+}
+
 /// Process 2 of group 1 is down, and 0 multicasts to that group. This is process 1's trust set at the end.
 fn one_of_two_down(trusted_by_1: u16) -> Vec<Record> {
     vec![setup(&[0, 1, 1]), crash(2), trust(0, 0b011), multicast(0, 0b10), trust(1, trusted_by_1)]

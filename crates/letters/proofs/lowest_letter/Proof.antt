@@ -108,7 +108,6 @@ receivers-requires c κs =
       omega (arith, r),
       omega arith,
       omega (arith, r),
-      omega (arith, r),
       s .pre .3,
     )
 

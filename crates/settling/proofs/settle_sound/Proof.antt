@@ -1,6 +1,6 @@
 -- `settling::settle_sound` meets its contract. The loop's invariant: the world is sound, the index is its, and settling
 -- goes on from it with what is left of the budget. Assumes nothing.
-use mathlib.Core.Path.{_≡_, refl, sym, ap, _∙_, subst}
+use mathlib.Core.Path.{_≡_, sym, ap, _∙_, subst}
 use mathlib.Core.List.{List}
 use Prim.Native.Nat.{ℕ, _-_, _≤_, _<_}
 use native.Mathlib.Nat.{sub-zero}
@@ -15,7 +15,7 @@ use Rattle.definitions.specs.Words.{settle-words}
 use Rattle.index.specs.Index.{Index}
 use Rattle.letters.specs.Letters.{choice-of}
 use Rattle.settling.specs.Settling.{settling-from, settle-done, settle-stopped, letter-within, Going, going-first}
-use Rattle.settling.specs.Batch.{receives-found, going-here, some-receiver, batched-first}
+use Rattle.settling.specs.Batch.{receives-waiting, going-here, some-receiver, batched-first}
 use borrow.Author.Needs.{needs}
 use Rattle.settling.proofs.settle_sound.Statement.{statement}
 use Rattle.settling.proofs.settle_sound.Tie as tie
@@ -94,12 +94,12 @@ within c =
     let l = c .before .before .before .before .before .before in
     letter-within (l .loop .w) _ _ _ _ (l .loop .inv .2 .sound) (found c)
 
-letters-requires : tie.Need-letters-requires Inv-loop μ-loop
-letters-requires c κs =
+receivers-requires : tie.Need-receivers-requires Inv-loop μ-loop
+receivers-requires c κs =
     let f = c .before in
-    let l = f .before .before .before .before .before .before in
+    let g = f .before .before .before .before .before .before .loop .inv .2 in
     let a = within f in
-    (l .loop .inv .2 .sound .long, a .1, a .0, a .2)
+    (g .sound .long, a .1, a .0, a .2, g .ups)
 
 batch-requires : tie.Need-batch-requires Inv-loop μ-loop
 batch-requires c κs =
@@ -111,8 +111,7 @@ batch-requires c κs =
     let v = l .loop .inv in
     let g = f .before .k .given .0 in
     let z = lowest-moves (view w) _ _ _ _ (found f) .letter in
-    let r = receives-found (view w) (g .0) (g .1 .0) (g .1 .1 .0) (g .1 .1 .1 .0) (found f) (size-high _ (v .2 .sound .reads))
-    (v .2 .ups) (o .letters .ensures) refl in (
+    let r = receives-waiting (view w) (g .0) (g .1 .0) (g .1 .1 .0) (o .receivers .ensures) in (
       batched-first (going-here (g .0) (g .1 .0) (g .1 .1 .0) (g .1 .1 .1 .0) (v .2) (found f)) (v .4) (v .0),
       r,
       some-receiver (view w) (g .0) (g .1 .0) (g .1 .1 .0) (g .1 .1 .1 .0) _ (found f) (within f .3) r,
@@ -191,7 +190,7 @@ settle-sound-spec =
     same-length
     same-length-2
     returns
-    letters-requires
+    receivers-requires
     batch-requires
     loop-less
     loop-again

@@ -39,6 +39,22 @@ pub fn world(random: &mut Random, starts: &[Start]) -> World {
     world
 }
 
+/// Crashes some processes, whose letters are left in flight; one time in two nothing else is to come.
+pub fn crashes(random: &mut Random, world: &mut World) {
+    let alone = random.one_in(2);
+    if alone {
+        world.settle(u32::MAX);
+    }
+    for _ in 0..random.between(1, world.processes.len()) {
+        let process = random.below(world.processes.len());
+        if alone {
+            let mask = random.between(1, (1 << world.groups()) - 1) as u8;
+            let _ = world.step(&record::multicast(process, mask));
+        }
+        let _ = world.step(&record::crash(process));
+    }
+}
+
 /// The length of a world, or one time in so many another.
 pub fn length(random: &mut Random, wrong: usize) -> usize {
     if !random.one_in(wrong) {

@@ -63,6 +63,17 @@ pub fn agreed(world: &World) -> bool {
     })
 }
 
+/// A + so many times A × A, over the messages so far.
+pub fn sum(world: &World, times: u32) -> u32 {
+    let count = |m: usize| (0..world.processes.len()).filter(|&q| world.is_addressee(m, q)).count() as u32;
+    (0..world.messages.len()).map(|m| count(m) + times * count(m) * count(m)).sum()
+}
+
+/// The letters that the messages so far can cause.
+pub fn letters(world: &World) -> u32 {
+    sum(world, 2)
+}
+
 /// The records of a stored journal.
 pub fn stored(name: &str) -> Vec<Record> {
     let path = Path::new(env!("CARGO_MANIFEST_DIR")).join(format!("../../tests/journals/{name}.journal"));

@@ -1,0 +1,5 @@
+pub mod Left
+pub mod Lost
+pub mod Theorem
+pub mod Uses
+pub mod Examples
