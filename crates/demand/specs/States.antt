@@ -1,6 +1,6 @@
 -- Demand 3 over states, for the run of any list of items from a fresh world. Order comes from Runs and Order
 -- (crate order), the bound from the potential (crate bound), agreement from letters and trust (crate
--- agreement): a settle that says done leaves no letter between up processes, and keeps the trust rule of the
+-- agreement): a settle that says done leaves no letter to an up process, and keeps the trust rule of the
 -- list, its live processes and its trust sets. Assumes nothing.
 use mathlib.Core.Path.{_≡_, refl, sym, ap, subst, fun-ext}
 use mathlib.Core.Bool.{Bool, true}

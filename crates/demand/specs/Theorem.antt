@@ -168,7 +168,7 @@ module _ (setup : List ℕ) (items : List Item) (ok : setup-refusal setup ≡ 0)
 -- counters count the multicasts known of; so a message goes in exactly when all that precede it and are to
 -- the group are in the FIFO log, and after them. Every letter in flight, and every one that may still be
 -- sent, is counted by a number that no step but a multicast raises and each arrival lowers; so a settle of
--- 33,792 arrivals ends, with no letter left between up processes. Then whoever holds a message has told all
+-- 33,792 arrivals ends, with no letter left to an up process. Then whoever holds a message has told all
 -- live addressees, and each has told all that it is its turn; what one process delivered was vouched for by a
 -- live member of each group, which the trust rule gives.
 pub demand-3 : Demand3Always
