@@ -1,17 +1,17 @@
 -- What a settle leaves, read off its answer and its words, whatever words were lent. Done: no letter can move, and in a
 -- sound world every letter in flight is of a message and a process. Stopped: the choice names a letter. Assumes nothing.
-use mathlib.Core.Path.{_≡_, sym, ap, _∙_, subst}
-use mathlib.Core.Bool.{true}
+use mathlib.Core.Path.{_≡_, refl, sym, ap, _∙_, subst}
+use mathlib.Core.Bool.{Bool, true, false}
 use mathlib.Core.List.{List}
 use Prim.Native.Nat.{ℕ, zero, suc, _<_}
 use native.Mathlib.Omega.{arith}
-use lib.Dec.{ltb}
+use lib.Dec.{eqb, ltb}
 use borrow.Author.Tests.{ltb-true, eqb-true, ne-eqb}
-use Rattle.definitions.specs.General.{gives, unless-refused}
+use Rattle.definitions.specs.General.{pick, gives, unless-refused}
 use Rattle.definitions.specs.World.{size, count, State, encode, view}
 use Rattle.definitions.specs.Sound.{sends}
 use Rattle.definitions.specs.Machine.{arrival}
-use Rattle.definitions.specs.Settle.{Choice, letter, nothing, lowest, Ending, done, stopped}
+use Rattle.definitions.specs.Settle.{Choice, letter, nothing, lowest, Ending, done, stopped, Settled, settle-from}
 use Rattle.definitions.specs.Words.{needs-world, settle-words, settled-words, settle-reply}
 use Rattle.definitions.specs.NothingToCome.{ToCome, SomeToCome, to-come}
 use Rattle.base.specs.Tests.{pick-no, both-l}
@@ -86,3 +86,20 @@ one-moves w b n e =
           l .flies,
         )
     go nothing a n = elim n [ ]
+
+-- ---- a settle that is allowed no arrival leaves every word, and so only tells whether anything is to come
+pub asked-only : (w : List ℕ) → settled-words w 0 ≡ w
+unfolding settled-words settle-words settle-from
+asked-only w = unchanged (eqb (needs-world w 0) 0) (lowest (view w))
+  where
+    asked : Choice → Settled (List ℕ)
+    asked c =
+        elim c [
+          | letter k m q p ↦ record { world = w; ending = stopped 0 }
+          | nothing ↦ record { world = w; ending = done 0 }
+        ]
+
+    unchanged : (b : Bool) (c : Choice) → pick b (asked c .world) w ≡ w
+    unchanged true (letter k m q p) = refl
+    unchanged true nothing = refl
+    unchanged false c = refl
