@@ -50,6 +50,10 @@ and-swap true false = refl
 and-swap false true = refl
 and-swap false false = refl
 
+pub and-true : (a : Bool) → (a && true) ≡ a
+and-true true = refl
+and-true false = refl
+
 pub and-false : (a : Bool) → (a && false) ≡ false
 and-false true = refl
 and-false false = refl

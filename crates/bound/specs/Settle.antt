@@ -1,7 +1,6 @@
 -- Settle ends: each arrival lowers the potential, so a settle makes at most as many arrivals as the
--- potential, and with a budget of at least that it says done, with no letter left to move. For any choice of
--- the next letter that names only letters that can move, and names nothing only where none can; document 01's
--- choice of the lowest is one. Assumes nothing.
+-- potential, and with a budget of at least that it says done. For any choice of the next letter that names
+-- only letters that can move, and names nothing only where none can; the lowest letter is one. Assumes nothing.
 use mathlib.Core.Path.{_≡_, refl, ap}
 use mathlib.Core.List.{List}
 use Prim.Native.Nat.{ℕ, zero, suc, _+_, _*_, _≤_, _<_}
@@ -15,9 +14,9 @@ use Rattle.definitions.specs.Settle.{Choice, letter, nothing, lowest, Ending, d
 use Rattle.definitions.specs.History.{Item, run}
 use Rattle.world.specs.SoundLaws.{Sound}
 use Rattle.world.specs.StepLaws.{Arrives, Chosen, lowest-chosen, moves-taken}
-use Rattle.world.specs.SettleLaws.{settle}
+use Rattle.world.specs.SettleLaws.{settle, goes-on}
 use Rattle.world.specs.Runs.{on-states, started}
-use Rattle.keeps.specs.Keeps.{fresh-sound, step-sound, run-sound}
+use Rattle.keeps.specs.Keeps.{step-sound, reached-sound}
 use Rattle.effects.specs.Views.{Ground}
 use Rattle.effects.specs.Holding.{arrival-ground}
 use Rattle.effects.specs.Spent.{arrived-once, step-once}
@@ -41,7 +40,7 @@ module _ {S : Type 0} (choose : S → Choice) (arrive : S → ℕ → ℕ → �
   pub record Ended (b n : ℕ) (s : S) (u : Settled S) : Type 0 where
     pub kept : P (u .world)
     pub few : arrivals (u .ending) ≤ n + left s
-    pub finishes : left s ≤ b → SaysDone (u .ending) × (choose (u .world) ≡ nothing)
+    pub finishes : left s ≤ b → SaysDone (u .ending)
 
   -- what one arrival gives
   pub record Falls (s t : S) : Type 0 where
@@ -53,25 +52,20 @@ module _ {S : Type 0} (choose : S → Choice) (arrive : S → ℕ → ℕ → �
     unfolding settle-from
     settle-ends zero n s p = go (choose s) refl
       where
-        go : (c : Choice) → choose s ≡ c → Ended 0 n s (elim c [
-          | letter k m q p ↦ record { world = s; ending = stopped n }
-          | nothing ↦ record { world = s; ending = done n }
-        ])
+        go : (c : Choice) → choose s ≡ c
+            → Ended 0 n s (goes-on c (λ k m q p. record { world = s; ending = stopped n }) s n)
         go (letter k m q r) e = record {
           kept = p;
           few = omega arith;
           finishes = λ h. let f = turn s k m q r e p .lowers in absurd (omega arith);
         }
-        go nothing e = record { kept = p; few = omega arith; finishes = λ h. (refl, e) }
+        go nothing e = record { kept = p; few = omega arith; finishes = λ h. refl }
     settle-ends (suc b) n s p = go (choose s) refl (λ k m q r z. settle-ends b (n + 1) (arrive s k m q r) z)
       where
         go : (c : Choice) → choose s ≡ c
             → ((k m q r : ℕ) → P (arrive s k m q r)
             → Ended b (n + 1) (arrive s k m q r) (settle-from choose arrive b (n + 1) (arrive s k m q r)))
-            → Ended (suc b) n s (elim c [
-              | letter k m q r ↦ settle-from choose arrive b (n + 1) (arrive s k m q r)
-              | nothing ↦ record { world = s; ending = done n }
-            ])
+            → Ended (suc b) n s (goes-on c (λ k m q r. settle-from choose arrive b (n + 1) (arrive s k m q r)) s n)
         go (letter k m q r) e ih =
             let f = turn s k m q r e p in
             let i = ih k m q r (f .keeps) in
@@ -80,7 +74,7 @@ module _ {S : Type 0} (choose : S → Choice) (arrive : S → ℕ → ℕ → �
               few = omega (arith, i .few, f .lowers);
               finishes = λ h. i .finishes (omega (arith, f .lowers));
             }
-        go nothing e ih = record { kept = p; few = omega arith; finishes = λ h. (refl, e) }
+        go nothing e ih = record { kept = p; few = omega arith; finishes = λ h. refl }
 
 -- ---- a letter that can move, of a sound world
 module _ (s : State) (k m q p : ℕ) (h : Sound s) (a : Arrives s k m q p) where
@@ -134,7 +128,7 @@ module _ (s : State) (b : ℕ) (h : Sound s) where
   pub sound-settle-done : sum (s count)
       (λ m. addressee-count s m + 4 * (addressee-count s m * addressee-count s m)) ≤ b
       → SaysDone (settle s b .ending)
-  sound-settle-done l = ended .finishes (omega (arith, sound-potential s h)) .0
+  sound-settle-done l = ended .finishes (omega (arith, sound-potential s h))
 
 -- of a reached world at most the sum of A + 2 × A × A
 module _ (setup : List ℕ) (items : List Item) (ok : setup-refusal setup ≡ 0) where
@@ -144,7 +138,7 @@ module _ (setup : List ℕ) (items : List Item) (ok : setup-refusal setup ≡ 0)
 
   -- it is sound
   sound-end : Sound (run on-states (started setup) items .now)
-  sound-end = run-sound (started setup) items (fresh-sound setup ok)
+  sound-end = reached-sound setup items ok
 
   -- its potential
   few : potential (run on-states (started setup) items .now)
@@ -170,4 +164,4 @@ module _ (setup : List ℕ) (items : List Item) (ok : setup-refusal setup ≡ 0)
   -- a settle with at least 33,792 arrivals says done, without the trust rule
   pub reached-settle-done : (b : ℕ) → 33792 ≤ b
       → SaysDone (settle (run on-states (started setup) items .now) b .ending)
-  reached-settle-done b l = ended end b sound-end .finishes (omega (arith, reached-low)) .0
+  reached-settle-done b l = ended end b sound-end .finishes (omega (arith, reached-low))

@@ -192,9 +192,13 @@ module _ (w setup : List ℕ) (e : making-refusal w setup ≡ 0) where
   unfolding made-words
   start-carried = ap (λ (n : ℕ). record { now = pick (eqb n 0) (encode (made setup)) w; seen = [] }) e
 
-  -- and so are those after a list of items
+  -- and the run over words from there is the run over states
+  pub from-setup : (items : List Item)
+      → run on-words (started-words w setup) items ≡ written (run on-states (started setup) items)
+  from-setup items =
+      ap (λ (r : Run (List ℕ)). run on-words r items) start-carried
+      ∙ run-carried (started setup) items (fresh-sound setup setup-taken)
+
   pub words-after : (items : List Item)
       → run on-words (started-words w setup) items .now ≡ encode (run on-states (started setup) items .now)
-  words-after items =
-      ap (λ (r : Run (List ℕ)). run on-words r items .now) start-carried
-      ∙ ap (λ (r : Run (List ℕ)). r .now) (run-carried (started setup) items (fresh-sound setup setup-taken))
+  words-after items = ap (λ (r : Run (List ℕ)). r .now) (from-setup items)

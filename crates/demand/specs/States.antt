@@ -5,20 +5,17 @@
 use mathlib.Core.Path.{_≡_, refl, sym, ap, subst, fun-ext}
 use mathlib.Core.Bool.{Bool, true}
 use mathlib.Core.List.{List}
-use mathlib.Core.Logic.{inl, inr}
-use Prim.Native.Nat.{ℕ, _≤_, _<_}
+use Prim.Native.Nat.{ℕ, _+_, _≤_, _<_}
 use native.Mathlib.Omega.{arith}
 use lib.Dec.{eqb}
-use borrow.Author.Tests.{eq-eqb}
 use Rattle.definitions.specs.General.{bit}
 use Rattle.definitions.specs.World.{size, trust, up, State}
 use Rattle.definitions.specs.Setup.{setup-refusal}
-use Rattle.definitions.specs.Steps.{arrives, is-up, in-flight, step}
-use Rattle.definitions.specs.Settle.{nothing, moves, lowest, Settled, settle-from}
+use Rattle.definitions.specs.Steps.{arrives, is-up, step}
+use Rattle.definitions.specs.Settle.{nothing, lowest, Settled, settle-from}
 use Rattle.definitions.specs.History.{Run, Item, taken, run, TrustRule}
-use Rattle.base.specs.Tests.{bool-cases, clash, both-i}
-use Rattle.world.specs.StepLaws.{lowest-chosen, lowest-moves, moves-taken}
-use Rattle.world.specs.SettleLaws.{settle}
+use Rattle.world.specs.StepLaws.{lowest-chosen, none-flies, lowest-moves, moves-taken}
+use Rattle.world.specs.SettleLaws.{settle, Says, settle-says}
 use Rattle.world.specs.Runs.{on-states, started}
 use Rattle.effects.specs.Views.{Ground}
 use Rattle.order.specs.Runs.{Whole, whole-started}
@@ -35,13 +32,7 @@ settled r b = settle-from (λ t. lowest (t .now)) (λ t k m q p. taken on-states
 
 -- nothing to move: no letter flies between two up processes
 calm : (s : State) → lowest s ≡ nothing → Calm s
-unfolding moves
-calm s e k m q p hk hm hq hp uq up-p = elim (bool-cases (in-flight s k m q p)) [
-  | inr z ↦ z
-  | inl z ↦ clash
-      (both-i (in-flight s k m q p) (is-up s p) z (eq-eqb (s (up p)) 1 up-p))
-      (rw e at (lowest-chosen s) k m q p hk hm hq hp)
-]
+calm s e k m q p hk hm hq hp uq up-p = none-flies s (rw e at (lowest-chosen s)) k m q p hk hm hq hp up-p
 
 -- ---- demand 3, for the run of a list of items
 pub record Demand3States (r : Run State) (items : List Item) : Type 0 where
@@ -89,13 +80,20 @@ module _ (setup : List ℕ) (items : List Item) (ok : setup-refusal setup ≡ 0)
           ground-is = refl;
         })
 
+    -- and leaves no letter to move
+    none-left : (b : ℕ) → 33792 ≤ b → lowest (settled r b .world .now) ≡ nothing
+    unfolding settled
+    none-left b l =
+        subst (Says (0 + b) (lowest (settled r b .world .now)))
+        (during b .finishes (omega (arith, reached-low setup items ok)))
+        (settle-says (λ t. lowest (t .now)) (λ t k m q p. taken on-states t (arrives k m q p)) b 0 r)
+
     agreed-after : (b : ℕ) → 33792 ≤ b → Agreed (settled r b .world .now)
     agreed-after b l =
-        let e = during b in
-        let d = e .kept in
+        let d = during b .kept in
         agrees (d .whole)
         (rw (fun-ext (λ q. ap (λ (g : Ground). eqb (g .up q) 1) (sym (d .ground-is)))) at (d .lives))
-        (calm (settled r b .world .now) (e .finishes (omega (arith, reached-low setup items ok)) .1))
+        (calm (settled r b .world .now) (none-left b l))
         (subst FairIn (sym (d .ground-is)) (rule .fair))
 
   -- demand 3 over states

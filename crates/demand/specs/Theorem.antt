@@ -22,7 +22,7 @@ use Rattle.base.specs.Tabulate.{length-tabulate, getD-tabulate}
 use Rattle.world.specs.Layout.{get-encode}
 use Rattle.world.specs.SoundLaws.{Sound, size-high, count-high, sender-low, fifo-addressed}
 use Rattle.world.specs.Runs.{on-states, started}
-use Rattle.keeps.specs.Keeps.{run-sound, fresh-sound}
+use Rattle.keeps.specs.Keeps.{fresh-sound, reached-sound}
 use Rattle.order.specs.Precedence.{cast-low}
 use Rattle.order.specs.Runs.{Whole}
 use Rattle.order.specs.Cascade.{Fifo}
@@ -136,7 +136,7 @@ module _ (setup : List ℕ) (items : List Item) (ok : setup-refusal setup ≡ 0)
 
   -- and the last
   sound-last : Sound (run on-states (started setup) items .now)
-  sound-last = run-sound (started setup) items sound-first
+  sound-last = reached-sound setup items ok
 
   -- the run over words is its words
   carried : run on-words (written (started setup)) items ≡ written (run on-states (started setup) items)

@@ -23,7 +23,7 @@ use Rattle.world.specs.Layout.{length-encode, encode-view}
 use Rattle.world.specs.SoundLaws.{Sound, size-high, count-high, sound-facts, facts-sound, sound-words}
 use Rattle.world.specs.StepLaws.{accepted-multicast, accepted-arrival, accepted-loss, accepted-trust, moves-taken, lowest-moves}
 use Rattle.world.specs.SettleLaws.{settle, settle-keeps}
-use Rattle.world.specs.Runs.{on-states}
+use Rattle.world.specs.Runs.{on-states, started}
 use Rattle.world.specs.Calls.{item-words, run-words}
 use Rattle.keeps.specs.Changes.{crash-sound, leave-sound}
 use Rattle.keeps.specs.Cascade.{arrival-sound, trust-set-sound}
@@ -98,6 +98,11 @@ pub run-sound : (r : Run State) (items : List Item) → Sound (r .now) → Sound
 unfolding run
 run-sound r [] h = h
 run-sound r (i ∷ items) h = run-sound (act on-states r i) items (act-sound r i h)
+
+-- so every world that a list reaches from a setup record that is taken
+pub reached-sound : (setup : List ℕ) (items : List Item) → setup-refusal setup ≡ 0
+    → Sound (run on-states (started setup) items .now)
+reached-sound setup items ok = run-sound (started setup) items (fresh-sound setup ok)
 
 -- ---- words
 -- Words that are a sound world: those that are not refused with 1 or 2.

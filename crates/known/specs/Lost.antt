@@ -24,7 +24,6 @@ use Rattle.base.specs.Tests.{clash, is-same}
 use Rattle.base.specs.Search.{every-true}
 use Rattle.base.specs.Bits.{bit-zero}
 use Rattle.world.specs.Runs.{on-states, started}
-use Rattle.keeps.specs.Keeps.{fresh-sound}
 use Rattle.effects.specs.Arrival.{Held, Fly}
 use Rattle.effects.specs.Holding.{lands, step-held, step-lasting}
 use Rattle.effects.specs.Spent.{Spent, Once, step-once}
@@ -37,7 +36,7 @@ use Rattle.order.specs.Runs.{Whole, whole-started, whole-step}
 use Rattle.order.specs.Order.{causal-past}
 use Rattle.agreement.specs.Turns.{Live}
 use Rattle.agreement.specs.Runs.{live-started, live-step}
-use Rattle.carried.specs.Carried.{written, run-carried, start-carried}
+use Rattle.carried.specs.Carried.{written, from-setup}
 use Rattle.carried.specs.Calls.{making-carried, log-carried, listed-in}
 use Rattle.known.specs.Runs.{multicasting, arriving, losing, crashing, three}
 
@@ -201,10 +200,7 @@ run-4-words w l items i k e =
     elim (listed-in log (in-at i k e)) [ in-at j h d ↦ run-4-stays items j h d ]
   where
     words : run on-words (started-words w three) (case-4 ++ items) ≡ written (then items)
-    words =
-        ap (λ (r : Run (List ℕ)). run on-words r (case-4 ++ items))
-        (start-carried w three (making-carried w three l ∙ setup-taken))
-        ∙ run-carried (started three) (case-4 ++ items) (fresh-sound three setup-taken)
+    words = from-setup w three (making-carried w three l ∙ setup-taken) (case-4 ++ items)
 
     log : log-words (run on-words (started-words w three) (case-4 ++ items) .now) 2 true
         ≡ tabulate (then items .now (causal-length 2)) (λ i. then items .now (causal 2 i))

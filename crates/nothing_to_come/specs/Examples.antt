@@ -21,7 +21,7 @@ use Rattle.world.specs.Layout.{get-encode}
 use Rattle.world.specs.SoundLaws.{Sound}
 use Rattle.world.specs.SettleLaws.{settle}
 use Rattle.world.specs.Runs.{on-states, started}
-use Rattle.keeps.specs.Keeps.{fresh-sound, run-sound}
+use Rattle.keeps.specs.Keeps.{reached-sound}
 use Rattle.carried.specs.Calls.{making-carried, refusal-carried}
 use Rattle.carried.specs.Carried.{settle-carried, reply-carried, words-after}
 use Rattle.nothing_to_come.specs.Theorem.{nothing-to-come}
@@ -57,7 +57,7 @@ unfolding ℕ-discrete every some first-from absent chosen loop bit with without
 computed = (refl, refl, refl, refl, refl, refl, refl)
 
 sound-end : Sound (run on-states (started apart) dead .now)
-sound-end = run-sound (started apart) dead (fresh-sound apart (computed .0))
+sound-end = reached-sound apart dead (computed .0)
 
 -- ---- as a caller has it, over any lent words
 module _ (w : List ℕ) (long : length w ≡ 20480) where

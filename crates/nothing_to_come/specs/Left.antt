@@ -1,39 +1,30 @@
 -- What a settle leaves, read off its answer and its words, whatever words were lent. Done: no letter can move, and in a
 -- sound world every letter in flight is of a message and a process. Stopped: the choice names a letter. Assumes nothing.
-use mathlib.Core.Path.{_≡_, refl, sym, ap, _∙_, subst}
+use mathlib.Core.Path.{_≡_, refl, sym, subst, subst₂}
 use mathlib.Core.Bool.{Bool, true, false}
 use mathlib.Core.List.{List}
-use Prim.Native.Nat.{ℕ, zero, suc, _<_}
+use Prim.Native.Nat.{ℕ, _+_, _<_}
 use native.Mathlib.Omega.{arith}
-use lib.Dec.{eqb, ltb}
-use borrow.Author.Tests.{ltb-true, eqb-true, ne-eqb}
-use Rattle.definitions.specs.General.{pick, gives, unless-refused}
-use Rattle.definitions.specs.World.{size, count, State, encode, view}
-use Rattle.definitions.specs.Sound.{sends}
+use lib.Dec.{eqb}
+use borrow.Author.Tests.{ltb-true}
+use Rattle.definitions.specs.General.{pick, gives}
+use Rattle.definitions.specs.World.{size, count, encode, view}
 use Rattle.definitions.specs.Machine.{arrival}
-use Rattle.definitions.specs.Settle.{Choice, letter, nothing, lowest, Ending, done, stopped, Settled, settle-from}
+use Rattle.definitions.specs.Settle.{Choice, letter, nothing, lowest, Ending, done, stopped, settle-from}
 use Rattle.definitions.specs.Words.{needs-world, settle-words, settled-words, settle-reply}
 use Rattle.definitions.specs.NothingToCome.{ToCome, SomeToCome, to-come}
-use Rattle.base.specs.Tests.{pick-no, both-l}
 use Rattle.base.specs.Refusals.{reply-gives}
-use Rattle.world.specs.SoundLaws.{Sound, size-high, count-high, sender-low, letter-facts}
+use Rattle.world.specs.SoundLaws.{Sound, size-high, count-high, letter-facts, origin-low}
 use Rattle.world.specs.StepLaws.{Chosen, lowest-chosen}
-use Rattle.world.specs.SettleLaws.{NamesLetter, Says, settle-says}
+use Rattle.world.specs.SettleLaws.{goes-on, NamesLetter, Says, settle-says}
+use Rattle.world.specs.Calls.{settle-taken}
 use Rattle.keeps.specs.Keeps.{SoundWords, taken-sound-words, settled-words-sound}
 
--- ---- a sound world: a letter in flight is of one of its messages, and from one of its processes
-from-low : (s : State) → Sound s → (k m q : ℕ) → m < s count → sends s m k q ≡ true → q < s size
-unfolding sends
-from-low s h zero m q hm e = omega (arith, sender-low s h m hm, eqb-true q _ e)
-from-low s h (suc k) m q hm e =
-    ltb-true q (s size) (both-l (ltb q (s size)) _ (sym (pick-no _ _ (ne-eqb (suc k) 0 (omega arith))) ∙ e))
-
+-- ---- a letter that is to come in a sound world is of one of its messages, and from one of its processes
 pub come-within : (u : List ℕ) (k m q p : ℕ) → SoundWords u → ToCome u k m q p → (m < view u count) × (q < view u size)
 come-within u k m q p h (hk, hm, hq, l, z) =
-    let s : State = view u in
-    let f = letter-facts s (h .reads) k m q p hk hm hq (omega (arith, l .0, size-high s (h .reads))) z in
-    let low : m < s count = ltb-true m (s count) (f .of) in
-    (low, from-low s (h .reads) k m q low (f .from))
+    let f = letter-facts (view u) (h .reads) k m q p hk hm hq (omega (arith, l .0, size-high (view u) (h .reads))) z in
+    (ltb-true m (view u count) (f .of), origin-low (view u) (h .reads) k m q p f)
 
 -- ---- the answer
 module _ (w : List ℕ) (b : ℕ) (e : Ending) (says : settle-reply w b ≡ gives e) where
@@ -42,25 +33,20 @@ module _ (w : List ℕ) (b : ℕ) (e : Ending) (says : settle-reply w b ≡ give
   unfolding settle-reply
   unrefused = reply-gives (needs-world w 0) e (settle-words w b .ending) (sym says)
 
-  left-words : settle-words w b .world ≡ settled-words w b
-  unfolding settled-words
-  left-words = sym (ap (λ (n : ℕ). unless-refused n (settle-words w b .world) w) (unrefused .0))
-
   pub left-sound : SoundWords (settled-words w b)
   left-sound = settled-words-sound w b (taken-sound-words w (unrefused .0))
 
   -- what it says of the choice that is left
-  left-says : Says b (lowest (view (settled-words w b))) e
+  left-says : Says (0 + b) (lowest (view (settled-words w b))) e
   unfolding settle-words
   left-says =
-      subst (λ (u : List ℕ). Says b (lowest (view u)) e) left-words
-      (subst (Says b (lowest (view (settle-words w b .world)))) (sym (unrefused .1))
-      (subst (λ (n : ℕ). Says n (lowest (view (settle-words w b .world))) (settle-words w b .ending)) (omega arith)
-      (settle-says (λ u. lowest (view u)) (λ u k m q p. encode (arrival (view u) k m q p)) b 0 w)))
+      subst₂ (λ (u : List ℕ) (x : Ending). Says (0 + b) (lowest (view u)) x) (settle-taken w b (unrefused .0) .1)
+      (sym (unrefused .1))
+      (settle-says (λ u. lowest (view u)) (λ u k m q p. encode (arrival (view u) k m q p)) b 0 w)
 
 -- done: no letter can move
-pub none-moves : (w : List ℕ) (b n : ℕ) → settle-reply w b ≡ gives (done n) → Chosen (view (settled-words w b)) nothing
-none-moves w b n e =
+pub nothing-moves : (w : List ℕ) (b n : ℕ) → settle-reply w b ≡ gives (done n) → Chosen (view (settled-words w b)) nothing
+nothing-moves w b n e =
     subst (Chosen (view (settled-words w b))) (left-says w b (done n) e) (lowest-chosen (view (settled-words w b)))
 
 -- stopped: the budget is used
@@ -92,14 +78,8 @@ pub asked-only : (w : List ℕ) → settled-words w 0 ≡ w
 unfolding settled-words settle-words settle-from
 asked-only w = unchanged (eqb (needs-world w 0) 0) (lowest (view w))
   where
-    asked : Choice → Settled (List ℕ)
-    asked c =
-        elim c [
-          | letter k m q p ↦ record { world = w; ending = stopped 0 }
-          | nothing ↦ record { world = w; ending = done 0 }
-        ]
-
-    unchanged : (b : Bool) (c : Choice) → pick b (asked c .world) w ≡ w
+    unchanged : (b : Bool) (c : Choice)
+        → pick b (goes-on c (λ k m q p. record { world = w; ending = stopped 0 }) w 0 .world) w ≡ w
     unchanged true (letter k m q p) = refl
     unchanged true nothing = refl
     unchanged false c = refl

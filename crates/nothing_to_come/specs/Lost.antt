@@ -21,7 +21,7 @@ use Rattle.world.specs.SoundLaws.{Sound, size-high, count-high}
 use Rattle.world.specs.StepLaws.{InFlight, accepted-loss}
 use Rattle.world.specs.SettleLaws.{settle}
 use Rattle.world.specs.Runs.{on-states, started}
-use Rattle.keeps.specs.Keeps.{fresh-sound, run-sound}
+use Rattle.keeps.specs.Keeps.{reached-sound}
 use Rattle.effects.specs.Arrival.{Fly}
 use Rattle.effects.specs.Runs.{run-append}
 use Rattle.bound.specs.Once.{flies-once}
@@ -34,8 +34,8 @@ module _ (w setup : List ℕ) (ok : making-refusal w setup ≡ 0) where
   abbrev state : List Item → State
   state items = run on-states (started setup) items .now
 
-  sound-state : (items : List Item) → Sound (run on-states (started setup) items .now)
-  sound-state items = run-sound (started setup) items (fresh-sound setup (setup-taken w setup ok))
+  sound-state : (items : List Item) → Sound (state items)
+  sound-state items = reached-sound setup items (setup-taken w setup ok)
 
   -- ---- the limit
   pub says-at-limit : (items : List Item) (b : ℕ) → 33792 ≤ b
@@ -49,38 +49,43 @@ module _ (w setup : List ℕ) (ok : making-refusal w setup ≡ 0) where
   -- ---- a letter that is lost
   module _ (bytes : List ℕ) (before after : List Item) (k m q p : ℕ) (reads : read bytes ≡ loses k m q p)
       (taken : step-refusal (run on-words (started-words w setup) before .now) bytes ≡ 0) where
-    -- the run until then, and the state
+    -- the run until then, its state, and the run with the loss
     abbrev r : Run State
     r = run on-states (started setup) before
 
     abbrev s : State
     s = r .now
 
-    unrefused : accepted (run on-states (started setup) before .now) (loses k m q p) ≡ true
+    abbrev with-loss : Run State
+    with-loss = run on-states r (given bytes ∷ [])
+
+    unrefused : accepted s (loses k m q p) ≡ true
     unrefused =
         eq-eqb _ 0
         (ap (refusal s) (sym reads) ∙ sym (refusal-carried s (sound-state before) bytes)
         ∙ ap (λ (u : List ℕ). step-refusal u bytes) (sym (words-after w setup ok before)) ∙ taken)
 
-    letter : InFlight (run on-states (started setup) before .now) k m q p
+    letter : InFlight s k m q p
     letter = accepted-loss s k m q p unrefused
 
     -- it leaves flight
-    lost-now : run on-states (run on-states (started setup) before) (given bytes ∷ []) .now
-        ≡ leave (run on-states (started setup) before .now) k m q p
+    lost-now : with-loss .now ≡ leave s k m q p
     unfolding run act tick step
     lost-now = rw (reads, unrefused)
 
-    not-flying : ¬ Fly (run on-states (run on-states (started setup) before) (given bytes ∷ []) .now) m k q p
+    not-flying : ¬ Fly (with-loss .now) m k q p
     unfolding leave
     not-flying f =
         clash (sym (ap (λ (x : State). bit (x (flight m k q)) p) lost-now) ∙ f)
         (ap (λ (x : ℕ). bit x p) (put-same s (flight m k q) (flight m k q) _ refl) ∙ without-hit (s (flight m k q)) p)
 
     -- and so it flies no more
-    gone-state : bit (run on-states (started setup) (before ++ (given bytes ∷ after)) .now (flight m k q)) p ≡ false
+    abbrev items : List Item
+    items = before ++ (given bytes ∷ after)
+
+    gone-state : in-flight (state items) k m q p ≡ false
     unfolding run
-    gone-state = elim (bool-cases (in-flight (state (before ++ (given bytes ∷ after))) k m q p)) [
+    gone-state = elim (bool-cases (in-flight (state items) k m q p)) [
       | inr z ↦ z
       | inl z ↦ absurd
           (flies-once setup before (given bytes ∷ []) after k m q p (letter .flies) not-flying
@@ -90,7 +95,6 @@ module _ (w setup : List ℕ) (ok : making-refusal w setup ≡ 0) where
 
     pub gone : in-flight (view (run on-words (started-words w setup) (before ++ (given bytes ∷ after)) .now)) k m q p ≡ false
     gone =
-        let items : List Item = before ++ (given bytes ∷ after) in
         let h = sound-state before in
         ap (λ (u : List ℕ). in-flight (view u) k m q p) (words-after w setup ok items)
         ∙ ap (λ (x : ℕ). bit x p)

@@ -1,26 +1,23 @@
 -- What card 4 of document 02 claims of settle. Why it is true: a settle says done only where the choice names nothing, the
 -- choice is over every letter in flight to an up process, and in a sound world there is no letter beside those of its
 -- messages and processes. Assumes nothing.
-use borrow.Author.Tests.{eq-eqb}
-use Rattle.definitions.specs.World.{up, view}
-use Rattle.definitions.specs.Steps.{is-up, in-flight}
-use Rattle.definitions.specs.Settle.{done, moves}
+use Rattle.definitions.specs.World.{view}
+use Rattle.definitions.specs.Settle.{done}
 use Rattle.definitions.specs.Words.{settled-words}
 use Rattle.definitions.specs.NothingToCome.{to-come, NothingToCome}
-use Rattle.base.specs.Tests.{clash, both-i}
-use Rattle.nothing_to_come.specs.Left.{come-within, left-sound, none-moves, all-made, one-moves}
+use Rattle.base.specs.Tests.{clash}
+use Rattle.world.specs.StepLaws.{none-flies}
+use Rattle.nothing_to_come.specs.Left.{come-within, left-sound, nothing-moves, all-made, one-moves}
 use Rattle.nothing_to_come.specs.Lost.{says-at-limit, gone}
 
 pub nothing-to-come : NothingToCome
-unfolding moves
 nothing-to-come = record {
   after-done = λ w b n e x. elim x [
     | to-come k m q p t ↦
         let (hk, _, _, l, flies) = t in
-        let s = view (settled-words w b) in
-        let low = come-within (settled-words w b) k m q p (left-sound w b (done n) e) t in
-        clash (both-i (in-flight s k m q p) (is-up s p) flies (eq-eqb (s (up p)) 1 (l .1)))
-        (none-moves w b n e k m q p hk (low .0) (low .1) (l .0))
+        let u = settled-words w b in
+        let low = come-within u k m q p (left-sound w b (done n) e) t in
+        clash flies (none-flies (view u) (nothing-moves w b n e) k m q p hk (low .0) (low .1) (l .0) (l .1))
   ];
   after-stopped = λ w b n e. (all-made w b n e, one-moves w b n e);
   within-limit = λ w setup items ok b l. says-at-limit w setup ok items b l;

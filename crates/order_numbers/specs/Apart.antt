@@ -19,10 +19,10 @@ use Rattle.world.specs.Layout.{get-encode, encode-ext}
 use Rattle.world.specs.SoundLaws.{Sound}
 use Rattle.world.specs.SettleLaws.{settle, settle-related}
 use Rattle.world.specs.Runs.{on-states, started}
-use Rattle.keeps.specs.Keeps.{run-sound, fresh-sound}
+use Rattle.keeps.specs.Keeps.{reached-sound}
 use Rattle.effects.specs.Logs.{log-item}
 use Rattle.carried.specs.Calls.{refusal-carried, log-carried, log-absent}
-use Rattle.carried.specs.Carried.{written, reply-carried, run-carried, setup-taken, start-carried}
+use Rattle.carried.specs.Carried.{written, reply-carried, setup-taken, from-setup}
 use Rattle.order_numbers.specs.Erase.{erased-same, erased-zeros, refusal-erased, step-erased, accepted-erased}
 use Rattle.order_numbers.specs.Bytes.{read-erased}
 
@@ -160,16 +160,6 @@ apart-written r h z = record {
 }
 
 module _ (w setup : List ℕ) (ok : making-refusal w setup ≡ 0) where
-  -- the run over words is the run over states
-  pub start-sound : Sound (made setup)
-  start-sound = fresh-sound setup (setup-taken w setup ok)
-
-  pub from-setup : (items : List Item)
-      → run on-words (started-words w setup) items ≡ written (run on-states (started setup) items)
-  from-setup items =
-      ap (λ (t : Run (List ℕ)). run on-words t items) (start-carried w setup ok)
-      ∙ run-carried (started setup) items start-sound
-
   zeros-from-setup : (items : List Item)
       → run on-states (started setup) (erased-items items) ≡ erased-run (run on-states (started setup) items)
   zeros-from-setup items =
@@ -182,7 +172,7 @@ module _ (w setup : List ℕ) (ok : making-refusal w setup ≡ 0) where
       (run on-words (started-words w setup) (erased-items items))
   run-apart items =
       let e = zeros-from-setup items in
-      subst₂ Apart (sym (from-setup items)) (sym (from-setup (erased-items items) ∙ ap written e))
-      (apart-written (run on-states (started setup) items) (run-sound (started setup) items start-sound)
-      (subst (λ (t : Run State). Sound (t .now)) e
-      (run-sound (started setup) (erased-items items) start-sound)))
+      let taken = setup-taken w setup ok in
+      subst₂ Apart (sym (from-setup w setup ok items)) (sym (from-setup w setup ok (erased-items items) ∙ ap written e))
+      (apart-written (run on-states (started setup) items) (reached-sound setup items taken)
+      (subst (λ (t : Run State). Sound (t .now)) e (reached-sound setup (erased-items items) taken)))

@@ -25,13 +25,12 @@ use Rattle.world.specs.Layout.{put-same, get-encode}
 use Rattle.world.specs.SoundLaws.{Sound, count-high}
 use Rattle.world.specs.SettleLaws.{settle-keeps}
 use Rattle.world.specs.Runs.{on-states, started}
-use Rattle.keeps.specs.Keeps.{run-sound}
+use Rattle.keeps.specs.Keeps.{reached-sound}
 use Rattle.effects.specs.Events.{gained-none}
 use Rattle.effects.specs.Runs.{run-append}
 use Rattle.carried.specs.Calls.{sound-world}
-use Rattle.carried.specs.Carried.{written, act-carried}
+use Rattle.carried.specs.Carried.{written, act-carried, setup-taken, from-setup}
 use Rattle.order_numbers.specs.Numbers.{arrival-numbers, Sets, one-more, none, step-sets, Has, has-stays}
-use Rattle.order_numbers.specs.Apart.{start-sound, from-setup}
 
 -- ---- the call, on the words of a sound state
 module _ (s : State) (h : Sound s) (m : ℕ) where
@@ -146,7 +145,7 @@ module _ (w setup : List ℕ) (items : List Item) (ok : making-refusal w setup �
   at before = run on-states (started setup) before
 
   sound-at : (before : List Item) → Sound (run on-states (started setup) before .now)
-  sound-at before = run-sound (started setup) before (start-sound w setup ok)
+  sound-at before = reached-sound setup before (setup-taken w setup ok)
 
   -- the item after them, over words
   act-words : (before : List Item) (i : Item)

@@ -12,7 +12,7 @@ use lib.ListN.{length, take, drop, getD, replicate, length-append, length-replic
 use lib.Seq.{take-suc, take-length, take-at, length-take-le}
 use borrow.Author.Tests.{eq-eqb, ne-eqb, eqb-true}
 use Rattle.definitions.specs.General.{filled, all-zero}
-use Rattle.base.specs.Tests.{both-l, both-r}
+use Rattle.base.specs.Tests.{both-l, both-r, and-true}
 
 pub length-filled : (n : ℕ) (s : List ℕ) → length s ≤ n → length (filled n s) ≡ n
 unfolding filled
@@ -35,11 +35,7 @@ or-zero x y = go (ℕ-discrete x 0) (ℕ-discrete y 0)
 -- one byte more
 all-zero-snoc : (s : List ℕ) (b : ℕ) → all-zero (s ++ (b ∷ [])) ≡ (all-zero s && eqb b 0)
 unfolding all-zero
-all-zero-snoc [] b = go (eqb b 0)
-  where
-    go : (x : Bool) → (x && true) ≡ x
-    go true = refl
-    go false = refl
+all-zero-snoc [] b = and-true (eqb b 0)
 all-zero-snoc (a ∷ s) b = ap (λ (x : Bool). eqb a 0 && x) (all-zero-snoc s b) ∙ go (eqb a 0)
   where
     go : (x : Bool) → (x && (all-zero s && eqb b 0)) ≡ ((x && all-zero s) && eqb b 0)

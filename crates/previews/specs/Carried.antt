@@ -17,7 +17,6 @@ use Rattle.base.specs.Sums.{sum-cong}
 use Rattle.world.specs.SoundLaws.{Sound, size-high}
 use Rattle.world.specs.Calls.{preview-judged}
 use Rattle.world.specs.Runs.{on-states, started}
-use Rattle.keeps.specs.Keeps.{fresh-sound, run-sound}
 use Rattle.carried.specs.Same.{Agree, same}
 use Rattle.carried.specs.Calls.{making-carried, view-agree, step-agree, refusal-carried}
 use Rattle.carried.specs.Carried.{words-after}
@@ -58,13 +57,7 @@ module _ (s : State) (h : Sound s) (bytes second : List ℕ) (long : length seco
           (λ r l. let low : r < 16 = omega (arith, size-high s h) in
           ap₂ (λ (x y : ℕ). x - y) (length-agree after r log low) (length-agree before r log low))
 
--- ---- after a list of items
--- the state is sound
-pub state-sound : (setup : List ℕ) (items : List Item) → setup-refusal setup ≡ 0
-    → Sound (run on-states (started setup) items .now)
-state-sound setup items taken = run-sound (started setup) items (fresh-sound setup taken)
-
--- and the words are its words, whatever words were lent
+-- ---- after a list of items the words are those of the state, whatever words were lent
 pub words-of-state : (w setup : List ℕ) (items : List Item) → length w ≡ 20480 → setup-refusal setup ≡ 0
     → run on-words (started-words w setup) items .now ≡ encode (run on-states (started setup) items .now)
 words-of-state w setup items long taken = words-after w setup (making-carried w setup long ∙ taken) items

@@ -17,8 +17,9 @@ use Rattle.definitions.specs.History.{Run, Item, given, tick, act, run}
 use Rattle.definitions.specs.Words.{log-words, log-growth, preview-refusal, preview-reply, on-words, started-words}
 use Rattle.definitions.specs.Previews.{gots}
 use Rattle.world.specs.Runs.{on-states, started}
+use Rattle.keeps.specs.Keeps.{reached-sound}
 use Rattle.previews.specs.Theorem.{previews}
-use Rattle.previews.specs.Carried.{refusal-shown, numbers-shown, state-sound, words-of-state}
+use Rattle.previews.specs.Carried.{refusal-shown, numbers-shown, words-of-state}
 
 -- ---- steps as bytes
 abbrev multicasting : ℕ → ℕ → List ℕ
@@ -65,7 +66,7 @@ Answers c =
 answers : (c : Case) → Passes c → Answers c
 answers c (made, taken, fifo, causal) w second l k =
     ap (λ (u : List ℕ). preview-reply u (c .bytes) second) (words-of-state w (c .setup) (c .items) l made)
-    ∙ numbers-shown (end c) (state-sound (c .setup) (c .items) made) (c .bytes) second k taken
+    ∙ numbers-shown (end c) (reached-sound (c .setup) (c .items) made) (c .bytes) second k taken
     ∙ ap₂ (λ (x y : ℕ). gives (record { fifo-number = x; causal-number = y })) fifo causal
 
 -- ---- the cases
@@ -211,4 +212,4 @@ module _ (w second : List ℕ) (long : length w ≡ 20480) (also : length second
       let made = all-pass .0 .0 in
       let s : State = run on-states (started pair) held-by-0 .now in
       rw (ap (λ (u : List ℕ). preview-refusal u (arriving 2 0 0 0) second) (words-of-state w pair held-by-0 long made)
-      ∙ refusal-shown s (state-sound pair held-by-0 made) (arriving 2 0 0 0) second also ∙ all-pass .8)
+      ∙ refusal-shown s (reached-sound pair held-by-0 made) (arriving 2 0 0 0) second also ∙ all-pass .8)

@@ -12,7 +12,7 @@ use Rattle.definitions.specs.General.{needs, gives, refuses, reply}
 use Rattle.definitions.specs.World.{size, addr, encode, view}
 use Rattle.definitions.specs.Sound.{sound}
 use Rattle.definitions.specs.Steps.{read, refusal, after}
-use Rattle.definitions.specs.Words.{needs-world, step-refusal, stepped-words, settle-words, settled-words, settle-reply, log-length, log-start, log-refusal, log-words, length-reply}
+use Rattle.definitions.specs.Words.{needs-world, step-refusal, stepped-words, settled-words, settle-reply, log-length, log-start, log-refusal, log-words, length-reply}
 use Rattle.base.specs.Refusals.{needs-none, reply-gives}
 use Rattle.world.specs.SoundLaws.{sound-facts, size-high, count-high, fifo-length-high, causal-length-high}
 use Rattle.keeps.specs.Keeps.{SoundWords, sound-words-taken, taken-sound-words, sound-refusal, sound-stepped}
@@ -62,11 +62,6 @@ pub settle-refused : (w : List ℕ) (b r : ℕ) → (r ≡ 0 → ⊥) → r ≡ 
     → (refuses r ≡ settle-reply w b) × (w ≡ settled-words w b)
 unfolding settle-reply settled-words
 settle-refused w b r n e = (rw (← e, ne-eqb r 0 n), rw (← e, ne-eqb r 0 n))
-
-pub settle-taken : (w : List ℕ) (b : ℕ) → needs-world w 0 ≡ 0
-    → (gives (settle-words w b .ending) ≡ settle-reply w b) × (settle-words w b .world ≡ settled-words w b)
-unfolding settle-reply settled-words
-settle-taken w b e = (rw e, rw e)
 
 -- ---- a process or a message that is named
 -- 1, 2, then n where i is not below the word at a

@@ -9,7 +9,7 @@ use borrow.Author.Tests.{eq-eqb, ne-eqb}
 use Rattle.definitions.specs.General.{bit, every, absent}
 use Rattle.definitions.specs.World.{size, trust, fifo-length, held, marks, fifo, State, encode, view, addressed, outside-fifo}
 use Rattle.definitions.specs.Machine.{in-turn, marked, ready}
-use Rattle.base.specs.Tests.{both, either, and-false}
+use Rattle.base.specs.Tests.{both, either, and-false, and-true}
 use Rattle.base.specs.Search.{every-cong}
 use Rattle.world.specs.Layout.{Reads, get-encode}
 use Rattle.bounds.specs.Bounds.{Bounds, bounds-state}
@@ -61,10 +61,6 @@ second : (b d : Bool) → both (both (both true b) true) d ≡ both b d
 second true d = refl
 second false d = refl
 
-last : (b : Bool) → both b true ≡ b
-last true = refl
-last false = refl
-
 -- m waits for no mark at p, and is outside its FIFO log
 abbrev pub cleared : State → ℕ → ℕ → Bool
 cleared s p m = both (outside-fifo s p m) (every (s size) (marked s p m))
@@ -106,4 +102,4 @@ module _ (s : State) (p m : ℕ) where
   pub cleared-is : {n : ℕ} {r : Bool} → every (s size) (marked s p m) ≡ true → n ≡ s (fifo-length p)
       → r ≡ absent n m (λ i. s (fifo p i)) → r ≡ cleared s p m
   cleared-is a en er =
-      er ∙ ap (λ (k : ℕ). absent k m (λ i. s (fifo p i))) en ∙ sym (ap (both new) a ∙ last new)
+      er ∙ ap (λ (k : ℕ). absent k m (λ i. s (fifo p i))) en ∙ sym (ap (both new) a ∙ and-true new)

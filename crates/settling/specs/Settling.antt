@@ -15,6 +15,7 @@ use Rattle.base.specs.Tests.{clash}
 use Rattle.base.specs.Bits.{bit-zero, with-cases}
 use Rattle.world.specs.SoundLaws.{size-high, count-high, sound-words}
 use Rattle.world.specs.Layout.{length-encode}
+use Rattle.world.specs.SettleLaws.{goes-on}
 use Rattle.world.specs.StepLaws.{moves-taken, lowest-moves}
 use Rattle.keeps.specs.Keeps.{SoundWords, step-sound}
 use Rattle.quiescence.specs.Quiescent.{Quiescent, QuiescentIf, arrival-quiescent}
@@ -34,38 +35,29 @@ arrive-words w k m q p = encode (arrival (view w) k m q p)
 abbrev pub settling-from : ℕ → ℕ → List ℕ → Settled (List ℕ)
 settling-from b n w = settle-from choose-words arrive-words b n w
 
--- what comes of a choice, with a budget left
-with-choice : Choice → (ℕ → ℕ → ℕ → ℕ → Settled (List ℕ)) → Settled (List ℕ) → Settled (List ℕ)
-with-choice c more end = elim c as (λ _. Settled (List ℕ)) [ letter k m q p ↦ more k m q p | nothing ↦ end ]
-
 pub settle-more : (b n : ℕ) (w : List ℕ) (k m q p : ℕ) → n < b → lowest (view w) ≡ letter k m q p
     → settling-from (b - n) n w ≡ settling-from (b - (n + 1)) (n + 1) (arrive-words w k m q p)
-unfolding settle-from with-choice
+unfolding settle-from
 settle-more b n w k m q p h e =
     let left : b - n ≡ suc (b - (n + 1)) = omega arith in
     ap (λ (x : ℕ). settling-from x n w) left
-    ∙ ap (λ (c : Choice). with-choice c
-    (λ k m q p. settling-from (b - (n + 1)) (n + 1) (arrive-words w k m q p))
-    (record { world = w; ending = done n })) e
+    ∙ ap (λ (c : Choice). goes-on c (λ k m q p. settling-from (b - (n + 1)) (n + 1) (arrive-words w k m q p)) w n) e
 
 pub settle-done : (b n : ℕ) (w : List ℕ) → lowest (view w) ≡ nothing
     → settling-from b n w ≡ record { world = w; ending = done n }
-unfolding settle-from with-choice
+unfolding settle-from
 settle-done zero n w e =
-    ap (λ (c : Choice). with-choice c (λ k m q p. record { world = w; ending = stopped n })
-    (record { world = w; ending = done n })) e
+    ap (λ (c : Choice). goes-on c (λ k m q p. record { world = w; ending = stopped n }) w n) e
 settle-done (suc b) n w e =
-    ap (λ (c : Choice). with-choice c (λ k m q p. settling-from b (n + 1) (arrive-words w k m q p))
-    (record { world = w; ending = done n })) e
+    ap (λ (c : Choice). goes-on c (λ k m q p. settling-from b (n + 1) (arrive-words w k m q p)) w n) e
 
 pub settle-stopped : (b n : ℕ) (w : List ℕ) (k m q p : ℕ) → b ≤ n → lowest (view w) ≡ letter k m q p
     → settling-from (b - n) n w ≡ record { world = w; ending = stopped n }
-unfolding settle-from with-choice
+unfolding settle-from
 settle-stopped b n w k m q p h e =
     let left : b - n ≡ 0 = omega arith in
     ap (λ (x : ℕ). settling-from x n w) left
-    ∙ ap (λ (c : Choice). with-choice c (λ k m q p. record { world = w; ending = stopped n })
-    (record { world = w; ending = done n })) e
+    ∙ ap (λ (c : Choice). goes-on c (λ k m q p. record { world = w; ending = stopped n }) w n) e
 
 -- ---- the processes of a mask are quiescent
 abbrev pub Rested : ℕ → State → Type 0

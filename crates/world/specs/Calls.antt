@@ -7,13 +7,13 @@ use Prim.Native.Nat.{ℕ}
 use lib.Dec.{eqb}
 use lib.ListN.{length}
 use borrow.Author.Tests.{eq-eqb, ne-eqb}
-use Rattle.definitions.specs.General.{pick, needs, unless-refused}
+use Rattle.definitions.specs.General.{pick, needs, unless-refused, gives}
 use Rattle.definitions.specs.World.{State, view}
 use Rattle.definitions.specs.Sound.{sound}
 use Rattle.definitions.specs.Steps.{Step, arrives, read, refusal, accepted, step, after}
 use Rattle.definitions.specs.Settle.{lowest, Settled, settle-from}
 use Rattle.definitions.specs.History.{Run, Item, given, settling, taken, tick, settles, act, run}
-use Rattle.definitions.specs.Words.{needs-world, making-refusal, made-words, step-words, step-refusal, stepped-words, settle-words, settled-words, preview-refusal, previewed-words, on-words}
+use Rattle.definitions.specs.Words.{needs-world, making-refusal, made-words, step-words, step-refusal, stepped-words, settle-words, settled-words, settle-reply, preview-refusal, previewed-words, on-words}
 use Rattle.world.specs.SettleLaws.{settle-related}
 
 -- ---- a refused call changes nothing
@@ -31,6 +31,12 @@ making-refused w bytes h = refused-same (making-refusal w bytes) _ w h
 pub settle-refused : (w : List ℕ) (b : ℕ) → (needs-world w 0 ≡ 0 → ⊥) → settled-words w b ≡ w
 unfolding settled-words
 settle-refused w b h = refused-same (needs-world w 0) _ w h
+
+-- a settle of a sound world
+pub settle-taken : (w : List ℕ) (b : ℕ) → needs-world w 0 ≡ 0
+    → (gives (settle-words w b .ending) ≡ settle-reply w b) × (settle-words w b .world ≡ settled-words w b)
+unfolding settle-reply settled-words
+settle-taken w b e = (rw e, rw e)
 
 pub after-refused : (s : State) (x : Step) → (refusal s x ≡ 0 → ⊥) → after s x ≡ s
 unfolding after

@@ -11,6 +11,11 @@ use Rattle.definitions.specs.Settle.{Choice, letter, nothing, Ending, done, sto
 unfoldable pub settle : State → ℕ → Settled State
 settle s b = settle-from lowest arrival b 0 s
 
+-- What follows a choice: more where it names a letter, else the end, with n arrivals made.
+abbrev pub goes-on : {S : Type 0} → Choice → (ℕ → ℕ → ℕ → ℕ → Settled S) → S → ℕ → Settled S
+goes-on {S} c more s n =
+    elim c as (λ _. Settled S) [ letter k m q p ↦ more k m q p | nothing ↦ record { world = s; ending = done n } ]
+
 -- Related worlds, and the same answer.
 pub record Alike {S T : Type 0} (R : S → T → Type 0) (x : Settled S) (y : Settled T) : Type 0 where
   pub worlds : R (x .world) (y .world)
@@ -21,26 +26,20 @@ module _ {S T : Type 0} (choose-s : S → Choice) (arrive-s : S → ℕ → ℕ 
     (same-choice : (s : S) (t : T) → R s t → choose-s s ≡ choose-t t)
     (same-arrival : (s : S) (t : T) (k m q p : ℕ) → R s t → choose-s s ≡ letter k m q p
     → R (arrive-s s k m q p) (arrive-t t k m q p)) where
-  -- one more letter, or the end: more says what follows a letter
-  next-of : {A : Type 0} → Choice → (ℕ → ℕ → ℕ → ℕ → Settled A) → A → ℕ → Settled A
-  next-of c more s n =
-      elim c [ letter k m q p ↦ more k m q p | nothing ↦ record { world = s; ending = done n } ]
-
   step-alike : (n : ℕ) (s : S) (t : T) (f : ℕ → ℕ → ℕ → ℕ → Settled S) (g : ℕ → ℕ → ℕ → ℕ → Settled T) → R s t
       → ((k m q p : ℕ) → choose-s s ≡ letter k m q p → Alike R (f k m q p) (g k m q p))
-      → Alike R (next-of (choose-s s) f s n) (next-of (choose-t t) g t n)
-  unfolding next-of
+      → Alike R (goes-on (choose-s s) f s n) (goes-on (choose-t t) g t n)
   step-alike n s t f g r same =
-      subst (λ (c : Choice). Alike R (next-of (choose-s s) f s n) (next-of c g t n)) (same-choice s t r)
+      subst (λ (c : Choice). Alike R (goes-on (choose-s s) f s n) (goes-on c g t n)) (same-choice s t r)
       (go (choose-s s) refl)
     where
-      go : (c : Choice) → choose-s s ≡ c → Alike R (next-of c f s n) (next-of c g t n)
+      go : (c : Choice) → choose-s s ≡ c → Alike R (goes-on c f s n) (goes-on c g t n)
       go (letter k m q p) e = same k m q p e
       go nothing e = record { worlds = r; endings = refl }
 
   pub settle-related : (b n : ℕ) (s : S) (t : T) → R s t
       → Alike R (settle-from choose-s arrive-s b n s) (settle-from choose-t arrive-t b n t)
-  unfolding settle-from next-of
+  unfolding settle-from
   settle-related zero n s t r =
       step-alike n s t (λ k m q p. record { world = s; ending = stopped n })
       (λ k m q p. record { world = t; ending = stopped n }) r
@@ -81,14 +80,8 @@ module _ {S : Type 0} (choose : S → Choice) (arrive : S → ℕ → ℕ → �
   unfolding settle-from
   settle-says zero n s = go (choose s) refl
     where
-      at-end : Choice → Settled S
-      at-end c =
-          elim c [
-            | letter k m q p ↦ record { world = s; ending = stopped n }
-            | nothing ↦ record { world = s; ending = done n }
-          ]
-
-      go : (c : Choice) → choose s ≡ c → Tells (n + 0) (at-end c)
+      go : (c : Choice) → choose s ≡ c
+          → Tells (n + 0) (goes-on c (λ k m q p. record { world = s; ending = stopped n }) s n)
       go (letter k m q p) e = (omega arith, rw e (names-letter k m q p))
       go nothing e = e
   settle-says (suc b) n s = go (choose s) refl (λ k m q p. settle-says b (n + 1) (arrive s k m q p))
@@ -96,10 +89,7 @@ module _ {S : Type 0} (choose : S → Choice) (arrive : S → ℕ → ℕ → �
       more : ℕ → ℕ → ℕ → ℕ → Settled S
       more k m q p = settle-from choose arrive b (n + 1) (arrive s k m q p)
 
-      goes-on : Choice → Settled S
-      goes-on c = elim c [ letter k m q p ↦ more k m q p | nothing ↦ record { world = s; ending = done n } ]
-
       go : (c : Choice) → choose s ≡ c → ((k m q p : ℕ) → Tells (n + 1 + b) (more k m q p))
-          → Tells (n + suc b) (goes-on c)
+          → Tells (n + suc b) (goes-on c more s n)
       go (letter k m q p) e ih = tells-same (n + 1 + b) (n + suc b) (more k m q p) (omega arith) (ih k m q p)
       go nothing e ih = e

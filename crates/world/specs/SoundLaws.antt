@@ -5,15 +5,15 @@ use mathlib.Core.Path.{_≡_, refl, sym, ap, ap₂, _∙_}
 use mathlib.Core.Bool.{Bool, true, false, not, _&&_}
 use mathlib.Core.List.{List}
 use mathlib.Core.Logic.{_≢_}
-use Prim.Native.Nat.{ℕ, _+_, _≤_, _<_}
+use Prim.Native.Nat.{ℕ, zero, suc, _+_, _≤_, _<_}
 use native.Mathlib.Omega.{arith}
 use lib.Dec.{ltb, leb, eqb}
-use borrow.Author.Tests.{ltb-true, ltb-false, lt-ltb, eqb-true, leb-true, eq-eqb, not-true}
+use borrow.Author.Tests.{ltb-true, ltb-false, lt-ltb, eqb-true, leb-true, eq-eqb, ne-eqb, not-true}
 use Rattle.definitions.specs.General.{pick, every, some, In, in-at, tally, absent, bit, only}
 use Rattle.definitions.specs.World.{Cell, size, count, rule, group, trust, counter, sequence, next, delivered, up, fifo-length, causal-length, held, marks, fifo, causal, sender, mask, stamp, number, flight, order, unused, addr, State, cell-at, encode, view, is-process, is-message, has-group, addressed, outside-fifo}
 use Rattle.definitions.specs.Sound.{addressee, sends, word, item, logged-of, fit, fine, sound}
 use Rattle.definitions.specs.Machine.{addressees}
-use Rattle.base.specs.Tests.{clash, both, both-l, both-r, both-i}
+use Rattle.base.specs.Tests.{clash, pick-no, both, both-l, both-r, both-i}
 use Rattle.base.specs.Search.{every-true, every-intro, every-cong, some-e, some-cong}
 use Rattle.base.specs.Count.{tally-le, tally-cong, absent-in, absent-out, absent-cong}
 use Rattle.base.specs.Bits.{bit-zero, bit-mask-of, bit-mask-of-above, only-e, only-cong}
@@ -210,6 +210,15 @@ module _ (s : State) (h : Sound s) where
         from = both-r (is-message s m) (sends s m k q) (u .0);
         to = only-e 16 (s (flight m k q)) (addressee s m) (u .1) p hp e;
       }
+
+  -- its origin is a process
+  pub origin-low : (k m q p : ℕ) → Letter s k m q p → q < s size
+  unfolding sends
+  origin-low zero m q p l =
+      omega (arith, sender-low s h m (ltb-true m (s count) (l .of)), eqb-true q (s (sender m)) (l .from))
+  origin-low (suc k) m q p l =
+      ltb-true q (s size)
+      (both-l (is-process s q) (addressed s m q) (sym (pick-no _ _ (ne-eqb (suc k) 0 (omega arith))) ∙ l .from))
 
   pub held-facts : (p m : ℕ) → p < 16 → m < 64 → s (held p m) ≢ 0 → Addressed s p m
   unfolding fine fit

@@ -1,6 +1,6 @@
 -- What an accepted step tells: each condition of its refusals, as a fact; and the letter that settle
 -- chooses is one that would be accepted. Assumes nothing.
-use mathlib.Core.Path.{_≡_, refl, subst}
+use mathlib.Core.Path.{_≡_, refl, sym, ap, _∙_, subst}
 use mathlib.Core.Bool.{Bool, true, false, _&&_}
 use Prim.Native.Nat.{ℕ, _<_, _^_}
 use native.Mathlib.Omega.{arith}
@@ -10,7 +10,7 @@ use Rattle.definitions.specs.General.{first-from, bit}
 use Rattle.definitions.specs.World.{size, count, up, flight, State, is-process, is-message}
 use Rattle.definitions.specs.Steps.{multicasts, arrives, loses, trusts, crashes, good-mask, is-up, in-flight, good-trust, refusal, accepted}
 use Rattle.definitions.specs.Settle.{Choice, letter, nothing, moves, receiver, origin, kind, movable, letter-of, lowest}
-use Rattle.base.specs.Tests.{both-l, both-r, both-i}
+use Rattle.base.specs.Tests.{both-l, both-r, both-i, and-true}
 use Rattle.base.specs.Refusals.{needs-none}
 use Rattle.base.specs.Search.{first-law}
 
@@ -170,6 +170,14 @@ lowest-chosen s = go (ltb m (s count)) refl
         → Chosen s (elim b as (λ _. Choice) [ true ↦ letter-of s m | false ↦ nothing ])
     go true e = letter-moves s m e (hit (s count) (movable s) e)
     go false e = none-moves s e
+
+-- where none moves, none is in flight to an up process
+pub none-flies : (s : State) → Chosen s nothing → (k m q p : ℕ) → k < 3 → m < s count → q < s size → p < s size
+    → s (up p) ≡ 1 → bit (s (flight m k q)) p ≡ false
+unfolding moves
+none-flies s c k m q p hk hm hq hp u =
+    let flies : Bool = in-flight s k m q p in
+    sym (and-true flies) ∙ ap (λ (b : Bool). flies && b) (sym (eq-eqb (s (up p)) 1 u)) ∙ c k m q p hk hm hq hp
 
 pub lowest-moves : (s : State) (k m q p : ℕ) → lowest s ≡ letter k m q p → Arrives s k m q p
 lowest-moves s k m q p e = subst (Chosen s) e (lowest-chosen s)

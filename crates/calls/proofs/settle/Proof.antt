@@ -3,7 +3,8 @@ use mathlib.Core.Path.{_∙_}
 use Rattle.definitions.specs.Answers.{refusal-number}
 use Rattle.answers.specs.Laws.{refusal-some, taken-zero, refused-number}
 use Rattle.keeps.specs.Keeps.{taken-sound-words}
-use Rattle.reading.specs.Tested.{settle-refused, settle-taken}
+use Rattle.reading.specs.Tested.{settle-refused}
+use Rattle.world.specs.Calls.{settle-taken}
 use borrow.Author.Needs.{needs}
 use Rattle.calls.proofs.settle.Statement.{statement}
 use Rattle.calls.proofs.settle.Tie as tie
