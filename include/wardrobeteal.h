@@ -44,8 +44,8 @@
 #include <stdint.h>
 
 /* The version of this header, as text and as the number that wt_version gives. */
-#define WT_VERSION "9.3.0"
-#define WT_VERSION_NUMBER 9003000
+#define WT_VERSION "9.4.0"
+#define WT_VERSION_NUMBER 9004000
 
 #ifdef __cplusplus
 extern "C" {
@@ -71,6 +71,9 @@ enum { WT_STEP_MULTICAST = 1, WT_STEP_ARRIVAL = 2, WT_STEP_LOSS = 3, WT_STEP_TRU
 
 /* The kinds of letters: the first one, sent by the sender of a message; a relay and an OK, sent by an addressee. */
 enum { WT_LETTER_FIRST = 0, WT_LETTER_RELAY = 1, WT_LETTER_OK = 2 };
+
+/* The kinds of answers of wt_awaited. */
+enum { WT_AWAITED_NOTHING = 0, WT_AWAITED_MESSAGE = 1, WT_AWAITED_PROCESS = 2 };
 
 /*
  * The version of the archive: a million times its first number, a thousand times its second, and its third. It is
@@ -155,6 +158,28 @@ uint32_t wt_world_log(const uint16_t *world, size_t world_length, uint32_t proce
 uint32_t wt_order(const uint16_t *world, size_t world_length, uint32_t message, uint32_t *number);
 
 /*
+ * Says whose message is awaited by one that is in the FIFO log of a process and not in its causal log: the lowest
+ * process, other than its sender, of which the causal log lacks messages that precede it, and the next message of that
+ * process.
+ *   process   the process, up or down
+ *   message   the message that waits there
+ *   kind      where the kind of the answer is put:
+ *               WT_AWAITED_NOTHING   nothing is awaited: the message is deliverable
+ *               WT_AWAITED_MESSAGE   a message is awaited, *awaited, whose sender is process *of
+ *               WT_AWAITED_PROCESS   a message of process *of is awaited, and there is none that would be the next
+ *   of        where that process is put; left as lent with WT_AWAITED_NOTHING
+ *   awaited   where that message is put; left as lent with WT_AWAITED_NOTHING and WT_AWAITED_PROCESS
+ * Returns 0, or refusal 1, 2, 5, 7, 18, the lowest that applies. Changes *kind, *of and *awaited.
+ *
+ * In a world that steps reached it is always WT_AWAITED_MESSAGE: the message exists, precedes the one that waits, is to
+ * the group of the process, and is not in its causal log. If it is in the FIFO log, it waits there too: ask for it in
+ * turn, and so on, until refusal 18 tells of one that is not there yet. The other two kinds are met only in words that
+ * were edited or damaged and are still sound; there, asking on and on can lead back to the same message.
+ */
+uint32_t wt_awaited(const uint16_t *world, size_t world_length, uint32_t process, uint32_t message, uint32_t *kind,
+                    uint32_t *of, uint32_t *awaited);
+
+/*
  * Replays a journal, over whatever the words hold: makes the world from its first record, takes all others as steps.
  * The arrivals of a wt_settle are not in a journal, unless they were taken as steps (see there).
  *   journal, journal_length   the bytes of the journal
@@ -226,7 +251,9 @@ enum {
     WT_REFUSAL_BLOCK = 15,          /* any other block rule */
     /* Whoever writes one. */
     WT_REFUSAL_RECORDS_LENGTH = 16, /* records length 0, no multiple of 8, over 8,064 records */
-    WT_REFUSAL_OUTPUT_LENGTH = 17   /* output length not what is needed */
+    WT_REFUSAL_OUTPUT_LENGTH = 17,  /* output length not what is needed */
+    /* The state of the mill, when asked what is awaited. */
+    WT_REFUSAL_NOT_WAITING = 18 /* message that isn't in that process's FIFO log or is already in its causal log */
 };
 
 /* The refusal's words: who causes it, and how, for whoever looks it up. "no refusal" for any other number. */
@@ -254,6 +281,8 @@ static inline const char *wt_refusal_text(uint32_t number) {
     case WT_REFUSAL_RECORDS_LENGTH:
         return "whoever writes one: records length 0, no multiple of 8, over 8,064 records";
     case WT_REFUSAL_OUTPUT_LENGTH: return "whoever writes one: output length not what is needed";
+    case WT_REFUSAL_NOT_WAITING:
+        return "the state of the mill: message that isn't in that process's FIFO log or is already in its causal log";
     default: return "no refusal";
     }
 }
@@ -280,6 +309,8 @@ static inline const char *wt_refusal_sentence(uint32_t number) {
     case WT_REFUSAL_BLOCK: return "this block's number, its count of records or a byte that must be zero is wrong";
     case WT_REFUSAL_RECORDS_LENGTH: return "a journal is written of 1 to 8,064 records of 8 bytes, and these are not";
     case WT_REFUSAL_OUTPUT_LENGTH: return "what was lent for the output is not just as long as the output";
+    case WT_REFUSAL_NOT_WAITING:
+        return "that message does not wait at that process: its FIFO log lacks it, or its causal log has it already";
     default: return "nothing was refused";
     }
 }

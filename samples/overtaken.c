@@ -3,7 +3,8 @@
  * The weighbridge acts on the release and calls the batch at the mixers (2). The line from the office to the mixers is
  * slow, and the call comes before the recipe: the mixer has the call, but does not act on it before the recipe, which
  * causally precedes it. The recipe and the batch are for one sales order, whose number they carry; the release is for
- * none. Before the last letter of the call and that of the recipe arrive, previews show what each would do.
+ * none. Before the last letter of the call and that of the recipe arrive, previews show what each would do; in between
+ * the engine says whose message the call awaits.
  *
  * cc -Idist samples/overtaken.c dist/libengine.a -o overtaken && ./overtaken
  */
@@ -116,6 +117,16 @@ static void print_letters(void) {
     }
 }
 
+/* Whose message is awaited by one that a machine has and does not act on yet. */
+static void print_awaited(uint32_t machine, uint32_t message) {
+    uint32_t kind = WT_AWAITED_NOTHING, of = 0, awaited = 0;
+    check(wt_awaited(world, WT_WORLD_WORDS, machine, message, &kind, &of, &awaited));
+    if (kind == WT_AWAITED_MESSAGE) {
+        printf("message %u waits at %s for message %u of %s\n", (unsigned)message, names[machine],
+               (unsigned)awaited, names[of]);
+    }
+}
+
 static void print_logs(void) {
     uint32_t machine;
     for (machine = 0; machine < MACHINES; machine++) print_logs_of(world, machine);
@@ -143,6 +154,7 @@ int main(void) {
     preview(WT_LETTER_OK, 2, MIXER, MIXER);
     arrive(WT_LETTER_OK, 2, MIXER, MIXER);
     print_letters();
+    print_awaited(MIXER, 2);
     print_logs();
     arrive(WT_LETTER_FIRST, 0, OFFICE, MIXER);
     preview(WT_LETTER_OK, 0, MIXER, MIXER);

@@ -1,7 +1,7 @@
 /*
  * Prints what the header states beside its declarations: sizes, the refusals' words, records written by its
- * functions, and what its functions read from a world; and what two previews show. The wrapper's tests hold the
- * wrapper to the same lines.
+ * functions, and what its functions read from a world; what two previews show, and whose message is awaited. The
+ * wrapper's tests hold the wrapper to the same lines.
  */
 #include <stdio.h>
 #include <string.h>
@@ -40,7 +40,7 @@ static void print_sizes(void) {
 
 static void print_refusals(void) {
     uint32_t number;
-    for (number = 1; number <= WT_REFUSAL_OUTPUT_LENGTH; number++) {
+    for (number = 1; number <= WT_REFUSAL_NOT_WAITING; number++) {
         printf("refusal %u: %s\n", (unsigned)number, wt_refusal_sentence(number));
         printf("caused by %s\n", wt_refusal_text(number));
     }
@@ -151,11 +151,51 @@ static void print_world(void) {
     print_letters();
 }
 
+/* What message 2 awaits at process 2, with a word of the world edited. */
+static void print_awaited(const char *what, size_t place, uint16_t word) {
+    uint32_t kind = 7, of = 8, awaited = 9;
+    uint16_t kept = world[place];
+    world[place] = word;
+    printf("awaited at process 2 by message 2, %s: ", what);
+    if (wt_awaited(world, WT_WORLD_WORDS, 2, 2, &kind, &of, &awaited) != 0) {
+        printf("refused\n");
+    } else if (kind == WT_AWAITED_NOTHING) {
+        printf("nothing\n");
+    } else if (kind == WT_AWAITED_MESSAGE) {
+        printf("message %u of process %u\n", (unsigned)awaited, (unsigned)of);
+    } else if (kind == WT_AWAITED_PROCESS) {
+        printf("process %u\n", (unsigned)of);
+    }
+    world[place] = kept;
+}
+
+/* A message that waits; then edited words, in which nothing is awaited, or a process alone. */
+static void print_waiting(void) {
+    const uint8_t groups[] = {0, 1, 2};
+    const size_t del = WT_PLACE_PROCESSES + 2 * WT_PROCESS_BLOCK + 154;
+    const size_t counter = WT_PLACE_MESSAGES + 2 + 2 * WT_PROCESSES;
+    uint8_t record[WT_RECORD_BYTES];
+    uint32_t answers = wt_put_setup(record, groups, 3);
+    answers += wt_world_make(world, WT_WORLD_WORDS, record, sizeof record);
+    then(&answers, wt_put_multicast(record, 0, WT_GROUP(2)), record);
+    then(&answers, wt_put_multicast(record, 0, WT_GROUP(1)), record);
+    then(&answers, wt_put_arrival(record, WT_LETTER_FIRST, 1, 0, 1), record);
+    then(&answers, wt_put_arrival(record, WT_LETTER_OK, 1, 1, 1), record);
+    then(&answers, wt_put_multicast(record, 1, WT_GROUP(2)), record);
+    then(&answers, wt_put_arrival(record, WT_LETTER_FIRST, 2, 1, 2), record);
+    then(&answers, wt_put_arrival(record, WT_LETTER_OK, 2, 2, 2), record);
+    printf("refused: %u\n", (unsigned)answers);
+    print_awaited("as it is", 0, 3);
+    print_awaited("del[0] 1", del, 1);
+    print_awaited("C[2][0] of message 0 2", counter, 2);
+}
+
 int main(void) {
     print_version();
     print_sizes();
     print_refusals();
     print_records();
     print_world();
+    print_waiting();
     return 0;
 }

@@ -1,7 +1,7 @@
 /*
  * Numbers that have no place in a record. The functions that write records refuse them and leave no step: whoever
  * takes the record all the same is refused, and the world stays as it was, though a step stood in the record before.
- * And order numbers and previews that are asked for and refused: what was lent stays as it was.
+ * And order numbers, previews and awaited messages that are asked for and refused: what was lent stays as it was.
  */
 #include <stdio.h>
 #include <string.h>
@@ -79,6 +79,51 @@ static void print_orders(void) {
     print_order("order of message 0 of no world", WT_WORLD_WORDS, 0);
 }
 
+/* What asking for the awaited message answered, with so many words lent. */
+static void print_awaited(const char *what, size_t words, uint32_t process, uint32_t message) {
+    uint32_t kind = 7, of = 8, awaited = 9, answer;
+    memcpy(before, world, sizeof world);
+    answer = wt_awaited(world, words, process, message, &kind, &of, &awaited);
+    printf("awaited %s: refusal %u, numbers %u %u %u, world %s\n", what, (unsigned)answer, (unsigned)kind,
+           (unsigned)of, (unsigned)awaited, state(before, world, sizeof world));
+}
+
+/* Takes the step that was written, and adds to the answers. */
+static void then(uint32_t *answers, uint32_t put) {
+    *answers += put + wt_step(world, WT_WORLD_WORDS, record, sizeof record);
+}
+
+/* Message 1 waits at process 2 for message 0, which process 1 has delivered; then it is asked for, rightly and not. */
+static void print_awaiteds(void) {
+    const size_t del = WT_PLACE_PROCESSES + 2 * WT_PROCESS_BLOCK + 154;
+    const size_t counter = WT_PLACE_MESSAGES + 2 + WT_PROCESSES;
+    uint32_t answers = 0;
+    world[WT_PLACE_COUNT] = 1;
+    then(&answers, wt_put_trust(record, 1, WT_PROCESS(1)));
+    then(&answers, wt_put_arrival(record, WT_LETTER_FIRST, 0, 0, 1));
+    then(&answers, wt_put_arrival(record, WT_LETTER_OK, 0, 1, 1));
+    then(&answers, wt_put_multicast(record, 1, WT_GROUP(1)));
+    then(&answers, wt_put_trust(record, 2, WT_PROCESS(2)));
+    then(&answers, wt_put_arrival(record, WT_LETTER_FIRST, 1, 1, 2));
+    then(&answers, wt_put_arrival(record, WT_LETTER_OK, 1, 2, 2));
+    printf("message 1 at process 2: refused %u\n", (unsigned)answers);
+    print_awaited("there", WT_WORLD_WORDS, 2, 1);
+    print_awaited("there, a word too few", WT_WORLD_WORDS - 1, 2, 1);
+    print_awaited("at process 3 by message 2", WT_WORLD_WORDS, 3, 2);
+    print_awaited("at process 2^32 - 1 by message 1", WT_WORLD_WORDS, 0xFFFFFFFF, 1);
+    print_awaited("by message 2", WT_WORLD_WORDS, 2, 2);
+    print_awaited("by message 2^32 - 1", WT_WORLD_WORDS, 2, 0xFFFFFFFF);
+    print_awaited("by message 0, which is not in the FIFO log", WT_WORLD_WORDS, 2, 0);
+    print_awaited("by message 0 at process 1, where it is in both logs", WT_WORLD_WORDS, 1, 0);
+    world[del] = 1;
+    print_awaited("there with del[0] 1", WT_WORLD_WORDS, 2, 1);
+    world[del] = 0;
+    world[counter] = 2;
+    print_awaited("there with C[1][0] of message 0 2", WT_WORLD_WORDS, 2, 1);
+    world[WT_PLACE_COUNT] = WT_MESSAGES + 1;
+    print_awaited("in no world", WT_WORLD_WORDS, 2, 1);
+}
+
 static void print_setup(const char *what, const uint8_t *groups, size_t processes) {
     uint32_t put = wt_put_setup(used(), groups, processes);
     printf("%s: refusal %u, made all the same: refusal %u\n", what, (unsigned)put,
@@ -116,6 +161,7 @@ int main(void) {
     print_step("multicast 3 to 1 order 65535", wt_put_multicast_with_order(used(), 3, WT_GROUP(1), 65535));
     print_previews();
     print_orders();
+    print_awaiteds();
     print_setup("setup 0 8", wrong, 2);
     print_setup("setup of 17", seventeen, 17);
     print_setup("setup of none", groups, 0);

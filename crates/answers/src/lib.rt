@@ -26,6 +26,7 @@ pub fn number(r: Refusal) -> u32
         Refusal::WrongForm => 15,
         Refusal::RecordsLength => 16,
         Refusal::OutputLength => 17,
+        Refusal::NotWaiting => 18,
     }
 }
 
@@ -43,5 +44,5 @@ pub fn outcome(x: Outcome) -> u32
 pub fn of_version() -> u32
     ensures { λ n. ⌜ n ≡ version ⌝ }
 {
-    9003000
+    9004000
 }

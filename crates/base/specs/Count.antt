@@ -1,4 +1,4 @@
--- Counting: how many below n pass a test, the last that does, and what stands in a list given by a
+-- Counting: how many below n pass a test, the last that does, the one with j ahead of it, and what stands in a list given by a
 -- function and its length; with the room that distinct numbers leave. Assumes nothing.
 use mathlib.Core.Path.{_≡_, refl, sym, ap, _∙_}
 use mathlib.Core.Bool.{Bool, true, false, not}
@@ -10,7 +10,7 @@ use native.Mathlib.Decide.{ℕ-discrete}
 use lib.Dec.{ltb, eqb}
 use borrow.Author.Tests.{ltb-true, ltb-false, eqb-true, eq-eqb, not-true, not-false}
 use Rattle.definitions.specs.General.{pick, first-from, every, tally, In, in-at, absent}
-use Rattle.base.specs.Tests.{bool-cases, clash, both, both-l, both-r, either, either-e, either-l, either-r, pick-le}
+use Rattle.base.specs.Tests.{bool-cases, clash, both, both-l, both-r, either, either-e, either-l, either-r, pick-le, le-or-lt}
 use Rattle.base.specs.Search.{Found, at, none, find, First, first-law, every-true, every-false, every-cong}
 
 -- ---- how many of 0, .., n - 1 pass
@@ -125,6 +125,22 @@ last-of (suc n) f = go (f n) refl (last-of n f)
         below-n : (j : ℕ) → j < suc n → f j ≡ true → Dec (j ≡ n) → j ≤ x
         below-n j k q (yes a) = clash q (ap f a ∙ e)
         below-n j k q (no a) = m j (omega arith) q
+
+-- ---- of those below n that pass, the one with j ahead of it
+pub data Nth (n : ℕ) (f : ℕ → Bool) (j : ℕ) : Type 0 where
+  nth : (y : ℕ) → y < n → f y ≡ true → tally y f ≡ j → Nth n f j
+
+pub nth-of : (n : ℕ) (f : ℕ → Bool) (j : ℕ) → j < tally n f → Nth n f j
+unfolding tally
+nth-of zero f j h = absurd (not-suc-le-zero h)
+nth-of (suc n) f j h = elim (le-or-lt (tally n f) j) [
+  | inr l ↦ elim (nth-of n f j l) [ nth y hy e d ↦ nth y (omega arith) e d ]
+  | inl l ↦ go (f n) refl h l
+]
+  where
+    go : (b : Bool) → f n ≡ b → j < pick b (suc (tally n f)) (tally n f) → tally n f ≤ j → Nth (suc n) f j
+    go true e k l = nth n (omega arith) e (omega arith)
+    go false e k l = absurd (omega arith)
 
 -- ---- m is one of f 0, .., f (n - 1)
 pub in-wider : {n k : ℕ} {f : ℕ → ℕ} {m : ℕ} → n ≤ k → In n f m → In k f m

@@ -3,14 +3,15 @@
 -- holds one that the layout has (Fits); every store keeps that, since the fuel of the two loops is the room
 -- that the logs have. Assumes nothing.
 use mathlib.Core.Path.{_≡_, refl, sym, ap, ap₂, _∙_, subst}
-use mathlib.Core.Bool.{Bool, true, false, _&&_}
+use mathlib.Core.Bool.{Bool, true, false, not, _&&_}
 use Prim.Native.Nat.{ℕ, zero, suc, _+_, _-_, _≤_, _<_, max}
 use native.Mathlib.Omega.{arith}
-use lib.Dec.{eqb}
-use Rattle.definitions.specs.General.{pick, every, loop, bit, with, without, mask-of}
+use lib.Dec.{ltb, eqb}
+use borrow.Author.Tests.{ltb-true}
+use Rattle.definitions.specs.General.{pick, first-from, loop, bit, with, without, mask-of}
 use Rattle.definitions.specs.World.{Cell, size, count, rule, group, trust, counter, sequence, next, delivered, up, fifo-length, causal-length, held, marks, fifo, causal, sender, mask, stamp, number, flight, order, unused, State, put, addressed, outside-causal}
-use Rattle.definitions.specs.Machine.{Tables, with-tables, addressees, in-turn, marked, ready, fits, deliverable, deliverable-at, merge, causal-one, causal-all, due, send-ok, send-oks, appended, raised-next, fifo-one, cascade, raised, stamped, numbered, posted, multicast, leave, mark, hold, arrival, trust-set, crash}
-use Rattle.base.specs.Search.{every-cong}
+use Rattle.definitions.specs.Machine.{Tables, with-tables, addressees, in-turn, marked, ready, fits, yes-now, message-of, process-alone, lowest-short, is-awaited, lowest-awaited, short-of, awaited, is-yes, deliverable, deliverable-at, merge, causal-one, causal-all, due, send-ok, send-oks, appended, raised-next, fifo-one, cascade, raised, stamped, numbered, posted, multicast, leave, mark, hold, arrival, trust-set, crash}
+use Rattle.base.specs.Search.{first-cong, every-cong}
 use Rattle.base.specs.Loop.{loop-related}
 use Rattle.base.specs.Count.{absent-cong}
 use Rattle.base.specs.Bits.{mask-of-cong}
@@ -123,7 +124,7 @@ module _ {s t : State} (a : Agree s t) where
   message-low m l = omega (arith, a .at count tt .1)
 
   -- to whom a message is
-  to-agree : (m q : ℕ) → m < 64 → q < 16 → addressed s m q ≡ addressed t m q
+  pub to-agree : (m q : ℕ) → m < 64 → q < 16 → addressed s m q ≡ addressed t m q
   to-agree m q hm hq = rw (same (mask m) hm, same (group q) hq)
 
   -- the addressees
@@ -175,24 +176,54 @@ module _ {s t : State} (a : Agree s t) where
         mark-agree q hq =
             rw (same (trust p) hp, same (mask m) hm, same (group q) hq, same (marks p m) (hp, hm))
 
+    -- the answer of the deliverable test
+    fits-agree : (m q : ℕ) → m < 64 → q < 16 → fits s p m q ≡ fits t p m q
+    fits-agree m q hm hq = rw (same (sender m) hm, stamp-agree m q hm hq, same (delivered p q) (hp, hq))
+
+    lowest-short-agree : (m : ℕ) → m < 64 → lowest-short s p m ≡ lowest-short t p m
+    unfolding lowest-short
+    lowest-short-agree m hm =
+        first-cong (s size) 0 (λ q. not (fits s p m q)) (λ q. not (fits t p m q))
+        (λ q _ l. ap not (fits-agree m q hm (process-low q (omega arith))))
+        ∙ ap (λ (n : ℕ). first-from n 0 (λ q. not (fits t p m q))) (same size tt)
+
+    lowest-awaited-agree : (q : ℕ) → q < 16 → lowest-awaited s p q ≡ lowest-awaited t p q
+    unfolding lowest-awaited
+    lowest-awaited-agree q hq =
+        first-cong (s count) 0 (is-awaited s p q) (is-awaited t p q)
+        (λ x _ l. is-agree x (message-low x (omega arith)))
+        ∙ ap (λ (n : ℕ). first-from n 0 (is-awaited t p q)) (same count tt)
+      where
+        is-agree : (x : ℕ) → x < 64 → is-awaited s p q x ≡ is-awaited t p q x
+        is-agree x hx =
+            rw (same (sender x) hx, to-agree x p hx hp, stamp-agree x q hx hq, same (delivered p q) (hp, hq))
+
+    short-agree : (q : ℕ) → q < 16 → short-of s p q ≡ short-of t p q
+    unfolding short-of
+    short-agree q hq =
+        ap₂ (λ (x n : ℕ). pick (ltb x n) (message-of q x) (process-alone q)) (lowest-awaited-agree q hq)
+        (same count tt)
+
+    pub awaited-agree : (m : ℕ) → m < 64 → awaited s p m ≡ awaited t p m
+    unfolding awaited
+    awaited-agree m hm =
+        go (ltb (lowest-short s p m) (s size)) refl
+        ∙ ap₂ (λ (q n : ℕ). pick (ltb q n) (short-of t p q) yes-now) (lowest-short-agree m hm) (same size tt)
+      where
+        go : (b : Bool) → ltb (lowest-short s p m) (s size) ≡ b
+            → pick b (short-of s p (lowest-short s p m)) yes-now ≡ pick b (short-of t p (lowest-short s p m)) yes-now
+        go true e = short-agree (lowest-short s p m) (process-low (lowest-short s p m) (ltb-true _ (s size) e))
+        go false e = refl
+
     deliverable-agree : (i : ℕ) → i < 64 → deliverable-at s p i ≡ deliverable-at t p i
     unfolding deliverable-at deliverable
     deliverable-agree i hi =
         ap₂ (λ (x y : Bool). x && y)
-        (absent-cong (s (causal-length p)) (t (causal-length p)) m (λ j. s (causal p j)) (λ j. t (causal p j))
-        (same (causal-length p) hp)
+        (absent-cong (s (causal-length p)) (t (causal-length p)) (s (fifo p i)) (λ j. s (causal p j))
+        (λ j. t (causal p j)) (same (causal-length p) hp)
         (λ j l. same (causal p j) (omega (arith, a .at (causal-length p) hp .1))))
-        (every-cong (s size) (fits s p m) (fits t p m) (λ q l. fit-agree q (process-low q l))
-        ∙ ap (λ (n : ℕ). every n (fits t p m)) (same size tt))
-        ∙ ap (λ (x : ℕ). outside-causal t p x && every (t size) (fits t p x)) (same (fifo p i) (hp, hi))
-      where
-        m : ℕ
-        m = s (fifo p i)
-
-        fit-agree : (q : ℕ) → q < 16 → fits s p (s (fifo p i)) q ≡ fits t p (s (fifo p i)) q
-        fit-agree q hq =
-            let hm = a .at (fifo p i) (hp, hi) .1 in
-            rw (same (sender m) hm, stamp-agree m q hm hq, same (delivered p q) (hp, hq))
+        (ap is-yes (awaited-agree (s (fifo p i)) (a .at (fifo p i) (hp, hi) .1)))
+        ∙ ap (λ (x : ℕ). outside-causal t p x && is-yes (awaited t p x)) (same (fifo p i) (hp, hi))
 
 -- ---- causal deliveries
 one-agree : {s t : State} (p i : ℕ) → p < 16 → i < 64 → s (causal-length p) < 64 → Agree s t

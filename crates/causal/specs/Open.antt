@@ -12,7 +12,7 @@ use lib.ListN.{getD, set, length}
 use lib.Seq.{set-set, set-getD, getD-set-same}
 use borrow.Author.Tests.{ltb-true, lt-ltb}
 use Rattle.base.specs.Tests.{clash, both, both-l, both-r, both-i, le-or-lt}
-use Rattle.definitions.specs.General.{bit, without, every, first-from, chosen}
+use Rattle.definitions.specs.General.{bit, without, first-from, chosen}
 use Rattle.base.specs.Bits.{bit-zero}
 use Rattle.base.specs.Search.{First, first-law}
 use Rattle.sets.specs.Lowest.{Has}
@@ -22,9 +22,9 @@ use Rattle.causal.specs.Causal.{earliest, kept-more, Delivering}
 use Rattle.deliverable.specs.Tests.{deliverable-words}
 use Rattle.index.specs.Index.{Index, Logs, is-open, index-state, index-words, logs-state, logs-words, open-room, frame}
 use Rattle.index.specs.Changes.{index-causal, logs-causal}
-use Rattle.definitions.specs.World.{size, fifo-length, causal-length, fifo, State, put, encode, view, outside-causal}
+use Rattle.definitions.specs.World.{fifo-length, causal-length, fifo, State, put, encode, view, outside-causal}
 use Rattle.world.specs.Layout.{Changes, put-same, reads-cell}
-use Rattle.definitions.specs.Machine.{fits, deliverable, deliverable-at, with-tables, merge, causal-one, causal-all}
+use Rattle.definitions.specs.Machine.{deliverable, deliverable-at, with-tables, merge, causal-one, causal-all}
 
 -- r is the earliest place of p's FIFO log that can be delivered causally, or 64.
 pub record Earliest (s : State) (p r : ℕ) : Type 0 where
@@ -33,26 +33,26 @@ pub record Earliest (s : State) (p r : ℕ) : Type 0 where
 
 -- what the search has shown of a place passed
 abbrev pub Waits : State → ℕ → ℕ → Type 0
-Waits s p j = every (s size) (fits s p (s (fifo p j))) ≡ false
+Waits s p j = deliverable s p (s (fifo p j)) ≡ false
 
 module _ (s : State) (p : ℕ) where
   waiting : (j : ℕ) → j < s (fifo-length p) → (is-open (frame s) p j ≡ true → Waits s p j)
       → deliverable-at s p j ≡ false
-  unfolding deliverable-at deliverable
+  unfolding deliverable-at
   waiting j l h = go (outside-causal s p (s (fifo p j))) refl
     where
       go : (b : Bool) → outside-causal s p (s (fifo p j)) ≡ b
-          → both b (every (s size) (fits s p (s (fifo p j)))) ≡ false
+          → both b (deliverable s p (s (fifo p j))) ≡ false
       go true e = h (both-i (ltb j (s (fifo-length p))) _ (lt-ltb j (s (fifo-length p)) l) e)
       go false e = refl
 
-  pub earliest-hit : (r : ℕ) → is-open (frame s) p r ≡ true → every (s size) (fits s p (s (fifo p r))) ≡ true
+  pub earliest-hit : (r : ℕ) → is-open (frame s) p r ≡ true → deliverable s p (s (fifo p r)) ≡ true
       → ((j : ℕ) → j < r → is-open (frame s) p j ≡ true → Waits s p j) → Earliest s p r
-  unfolding deliverable-at deliverable
+  unfolding deliverable-at
   earliest-hit r o d h = record {
     hit = λ _. (
       ltb-true r (s (fifo-length p)) (both-l (ltb r (s (fifo-length p))) _ o),
-      both-i (outside-causal s p (s (fifo p r))) (every (s size) (fits s p (s (fifo p r))))
+      both-i (outside-causal s p (s (fifo p r))) (deliverable s p (s (fifo p r)))
           (both-r (ltb r (s (fifo-length p))) _ o) d,
     );
     miss = λ j l k. waiting j k (h j l);

@@ -3,17 +3,20 @@
 -- its cases"). It rests on the replies of General. Assumes nothing.
 use Prim.Native.Nat.{ℕ}
 use Rattle.definitions.specs.General.{Reply, gives, refuses}
+use Rattle.definitions.specs.Machine.{Awaited, yes-now, message-of, process-alone}
 use Rattle.definitions.specs.Settle.{Ending, done, stopped}
 use Rattle.definitions.specs.Words.{NewDeliveries}
 use Rattle.definitions.specs.Replay.{Counts}
 use Rattle.definitions.specs.declared.Refusal.{Refusal}
-use Rattle.definitions.specs.declared.Refusal.the-variants.{WorldLength, WorldUnsound, BadSetup, Malformed, NoProcess, BadMask, NoMessage, BadTrust, Down, Full, NotInFlight, BothUp, JournalLength, WrongCheck, WrongForm, RecordsLength, OutputLength}
+use Rattle.definitions.specs.declared.Refusal.the-variants.{WorldLength, WorldUnsound, BadSetup, Malformed, NoProcess, BadMask, NoMessage, BadTrust, Down, Full, NotInFlight, BothUp, JournalLength, WrongCheck, WrongForm, RecordsLength, OutputLength, NotWaiting}
 use Rattle.definitions.specs.declared.Outcome.{Outcome}
 use Rattle.definitions.specs.declared.Outcome.the-variants as outcome
 use Rattle.definitions.specs.declared.Amount.{Amount}
 use Rattle.definitions.specs.declared.Amount.the-variants as amount
 use Rattle.definitions.specs.declared.OrderNumber.{OrderNumber}
 use Rattle.definitions.specs.declared.OrderNumber.the-variants as order-number
+use Rattle.definitions.specs.declared.Awaiting.{Awaiting}
+use Rattle.definitions.specs.declared.Awaiting.the-variants as awaiting
 use Rattle.definitions.specs.declared.Previewing.{Previewing}
 use Rattle.definitions.specs.declared.Previewing.the-variants as previewing
 use Rattle.definitions.specs.declared.Settling.{Settling}
@@ -40,6 +43,7 @@ refusal-number WrongCheck = 14
 refusal-number WrongForm = 15
 refusal-number RecordsLength = 16
 refusal-number OutputLength = 17
+refusal-number NotWaiting = 18
 
 -- Making a world, a step, writing and reading a journal: 0 where it is done, else the refusal's number.
 abbrev pub outcome-number : Outcome → ℕ
@@ -55,6 +59,13 @@ amount-reply (amount.Refused r) = refuses (refusal-number r)
 abbrev pub order-number-reply : OrderNumber → Reply ℕ
 order-number-reply (order-number.Is n) = gives n
 order-number-reply (order-number.Refused r) = refuses (refusal-number r)
+
+-- Whose message is awaited: yes, a process q with its message, q alone; or the refusal.
+abbrev pub awaiting-reply : Awaiting → Reply Awaited
+awaiting-reply awaiting.Nothing = gives yes-now
+awaiting-reply (awaiting.Message q x) = gives (message-of q x)
+awaiting-reply (awaiting.Process q) = gives (process-alone q)
+awaiting-reply (awaiting.Refused r) = refuses (refusal-number r)
 
 -- Preview: how many FIFO and how many causal deliveries the step adds, or the refusal.
 abbrev pub previewing-reply : Previewing → Reply NewDeliveries
@@ -82,6 +93,23 @@ abbrev pub done-in : Ending → ℕ
 done-in (done n) = 1
 done-in (stopped n) = 0
 
--- The version of the engine, 9.3.0: a million times its first number, a thousand times its second, and its third.
+-- Of whose message is awaited: 0 for yes, 1 for a process with its message, 2 for a process alone; the process, and the
+-- message. What a case does not have is what stood there before.
+abbrev pub kind-in : Awaited → ℕ
+kind-in yes-now = 0
+kind-in (message-of q x) = 1
+kind-in (process-alone q) = 2
+
+abbrev pub process-in : ℕ → Awaited → ℕ
+process-in before yes-now = before
+process-in before (message-of q x) = q
+process-in before (process-alone q) = q
+
+abbrev pub message-in : ℕ → Awaited → ℕ
+message-in before yes-now = before
+message-in before (message-of q x) = x
+message-in before (process-alone q) = before
+
+-- The version of the engine, 9.4.0: a million times its first number, a thousand times its second, and its third.
 abbrev pub version : ℕ
-version = 9003000
+version = 9004000

@@ -16,3 +16,4 @@ pub mod Demand
 pub mod OrderNumbers
 pub mod Previews
 pub mod NothingToCome
+pub mod Awaits

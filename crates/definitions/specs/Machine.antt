@@ -1,10 +1,10 @@
 -- What the five steps do to a state: document 01, section "Steps", in its order and words; the tests, the
 -- cascade with its two loops, and each step as a composition of named changes. It rests on the cells of
 -- World. Assumes nothing.
-use mathlib.Core.Bool.{Bool, not, _&&_, _||_}
+use mathlib.Core.Bool.{Bool, true, false, not, _&&_, _||_}
 use Prim.Native.Nat.{ℕ, zero, suc, _+_, _-_, max}
-use lib.Dec.{leb, eqb}
-use Rattle.definitions.specs.General.{pick, every, loop, bit, with, without, mask-of}
+use lib.Dec.{ltb, leb, eqb}
+use Rattle.definitions.specs.General.{pick, every, first-from, loop, bit, with, without, mask-of}
 use Rattle.definitions.specs.World.{size, count, rule, group, trust, counter, sequence, next, delivered, up, fifo-length, causal-length, held, marks, fifo, causal, sender, mask, stamp, number, flight, order, unused, State, put, addressed, outside-fifo, outside-causal}
 
 -- ---- the tables of a state: C and b of the processes, and C and s on the messages
@@ -68,9 +68,43 @@ at-most-del own counters del q = eqb q own || leb (counters q) (del q)
 abbrev pub fits : State → ℕ → ℕ → ℕ → Bool
 fits s p m = at-most-del (s (sender m)) (λ q. s (stamp m (s (group p)) q)) (λ q. s (delivered p q))
 
--- "Deliverable": for all q.
+-- What the deliverable test answers (document 02, card 5): "either yes, or the lowest process q whose entry falls short
+-- together with the lowest message of q to this group"; "with no such message the answer names q alone".
+pub data Awaited : Type 0 where
+  yes-now : Awaited
+  message-of : ℕ → ℕ → Awaited
+  process-alone : ℕ → Awaited
+
+-- "the lowest process q whose entry falls short", other than the sender: n where none does.
+unfoldable pub lowest-short : State → ℕ → ℕ → ℕ
+lowest-short s p m = first-from (s size) 0 (λ q. not (fits s p m q))
+
+-- x is a "message of q to this group whose C[this group][q] is del[q] plus 1".
+abbrev pub is-awaited : State → ℕ → ℕ → ℕ → Bool
+is-awaited s p q x =
+    eqb (s (sender x)) q && addressed s x p && eqb (s (stamp x (s (group p)) q)) (s (delivered p q) + 1)
+
+-- "the lowest message of q": count where there is none.
+unfoldable pub lowest-awaited : State → ℕ → ℕ → ℕ
+lowest-awaited s p q = first-from (s count) 0 (is-awaited s p q)
+
+-- Where q falls short: it "together with the lowest message", or "q alone".
+unfoldable pub short-of : State → ℕ → ℕ → Awaited
+short-of s p q =
+    pick (ltb (lowest-awaited s p q) (s count)) (message-of q (lowest-awaited s p q)) (process-alone q)
+
+-- The answer of the test for message m at process p.
+unfoldable pub awaited : State → ℕ → ℕ → Awaited
+awaited s p m = pick (ltb (lowest-short s p m) (s size)) (short-of s p (lowest-short s p m)) yes-now
+
+abbrev pub is-yes : Awaited → Bool
+is-yes yes-now = true
+is-yes (message-of q x) = false
+is-yes (process-alone q) = false
+
+-- "Deliverable": the answer is yes. "The cascade takes the new answer."
 unfoldable pub deliverable : State → ℕ → ℕ → Bool
-deliverable s p m = every (s size) (fits s p m)
+deliverable s p m = is-yes (awaited s p m)
 
 -- "some message of the FIFO log outside the causal log is deliverable": the one at place i of the FIFO log.
 unfoldable pub deliverable-at : State → ℕ → ℕ → Bool

@@ -2,16 +2,16 @@
 -- "Refusals". Each call first refuses words that are no sound world (1, 2), then what its own sentence
 -- refuses, lowest number first; a refusal leaves the words as they were. It rests on Sound, Setup, Steps,
 -- Settle and History. Assumes nothing.
-use mathlib.Core.Bool.{Bool, true, false}
+use mathlib.Core.Bool.{Bool, true, false, not, _&&_}
 use mathlib.Core.List.{List, []}
 use Prim.Native.Nat.{ℕ, _-_}
 use lib.Dec.{eqb}
 use lib.ListN.{length, take, drop}
 use Rattle.definitions.specs.General.{needs, unless-refused, Reply, reply, sum}
-use Rattle.definitions.specs.World.{size, fifo-length, causal-length, fifo, causal, order, addr, State, encode, view, is-process, is-message}
+use Rattle.definitions.specs.World.{size, fifo-length, causal-length, fifo, causal, order, addr, State, encode, view, is-process, is-message, outside-fifo, outside-causal}
 use Rattle.definitions.specs.Sound.{sound}
 use Rattle.definitions.specs.Setup.{setup-refusal, made}
-use Rattle.definitions.specs.Machine.{arrival}
+use Rattle.definitions.specs.Machine.{Awaited, awaited, arrival}
 use Rattle.definitions.specs.Steps.{Step, read, refusal, step}
 use Rattle.definitions.specs.Settle.{Ending, Settled, lowest, settle-from}
 use Rattle.definitions.specs.History.{Engine, Run}
@@ -81,6 +81,21 @@ order-refusal w m = needs-world w (needs 7 (is-message (view w) m) 0)
 -- "a call returns the order number of a message"
 unfoldable pub order-reply : List ℕ → ℕ → Reply ℕ
 order-reply w m = reply (order-refusal w m) (view w (order m))
+
+-- ---- whose message is awaited (document 02, card 5)
+-- Not "a message that isn't in that process's FIFO log or is already in its causal log".
+unfoldable pub is-waiting : State → ℕ → ℕ → Bool
+is-waiting s p m = not (outside-fifo s p m) && outside-causal s p m
+
+-- "It refuses with 18, after 7"; 1, 2 and 5 as for a log, 7 as for an order number.
+unfoldable pub awaited-refusal : List ℕ → ℕ → ℕ → ℕ
+awaited-refusal w p m =
+    needs-world w
+    (needs 5 (is-process (view w) p) (needs 7 (is-message (view w) m) (needs 18 (is-waiting (view w) p m) 0)))
+
+-- "A call gives it for a process and a message."
+unfoldable pub awaited-reply : List ℕ → ℕ → ℕ → Reply Awaited
+awaited-reply w p m = reply (awaited-refusal w p m) (awaited (view w) p m)
 
 -- ---- preview of a step (document 02, card 2): "Preview takes a world, a step and a second slice of world length"
 -- "Refusal 1 covers either slice", and "A step that would be refused gives the same refusal": 2 is of the world only.

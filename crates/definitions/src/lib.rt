@@ -1,6 +1,6 @@
 // The answers of the calls, as enums; specs/Answers says what each case means.
 
-// The refusals of document 01, each named by what was wrong.
+// The refusals of documents 01 and 02, each named by what was wrong.
 pub enum Refusal {
     WorldLength,
     WorldUnsound,
@@ -19,6 +19,7 @@ pub enum Refusal {
     WrongForm,
     RecordsLength,
     OutputLength,
+    NotWaiting,
 }
 
 // The answer of making a world, of a step, and of writing and reading a journal.
@@ -36,6 +37,14 @@ pub enum Amount {
 // The answer of a call that asks for the order number of a message.
 pub enum OrderNumber {
     Is(u16),
+    Refused(Refusal),
+}
+
+// The answer of a call that asks whose message is awaited: nothing is, a process's message, or a process alone.
+pub enum Awaiting {
+    Nothing,
+    Message(u32, u32),
+    Process(u32),
     Refused(Refusal),
 }
 

@@ -13,7 +13,7 @@ use borrow.Author.Tests.{eq-eqb}
 use Rattle.definitions.specs.General.{every, some, first-from, absent, chosen, loop, bit, with, without, mask-of, only}
 use Rattle.definitions.specs.World.{size, group, trust, up, fifo-length, causal-length, fifo, causal, State, put, has-group}
 use Rattle.definitions.specs.Setup.{fresh, setup-bits, setup-group, good-setup, setup-refusal, made}
-use Rattle.definitions.specs.Machine.{with-tables, ready, deliverable, deliverable-at, merge, causal-one, causal-all, appended, raised-next, due, send-ok, send-oks, fifo-one, cascade, raised, stamped, numbered, posted, multicast, leave, mark, hold, arrival, trust-set, crash}
+use Rattle.definitions.specs.Machine.{with-tables, ready, lowest-short, lowest-awaited, short-of, awaited, deliverable, deliverable-at, merge, causal-one, causal-all, appended, raised-next, due, send-ok, send-oks, fifo-one, cascade, raised, stamped, numbered, posted, multicast, leave, mark, hold, arrival, trust-set, crash}
 use Rattle.definitions.specs.Steps.{read, good-mask, is-up, refusal, step}
 use Rattle.definitions.specs.Settle.{moves, receiver, origin, kind, movable, letter-of, lowest, settle-from}
 use Rattle.definitions.specs.History.{Event, sent, got, here, there, same, carried, chain, Before, casts, deliveries, gained, Run, Item, given, tick, act, run, names, InForce, AllAlong, TrustRule}
@@ -79,7 +79,7 @@ waits r =
 -- it is so
 pub overtaken-waits : waits (run on-states (started three) until-overtaken) ≡ true
 unfolding ℕ-discrete every some first-from absent chosen loop bit with without mask-of only put with-tables
-    ready deliverable deliverable-at merge causal-one causal-all appended raised-next due send-ok send-oks
+    ready lowest-short lowest-awaited short-of awaited deliverable deliverable-at merge causal-one causal-all appended raised-next due send-ok send-oks
     fifo-one cascade raised stamped numbered posted multicast leave mark hold arrival trust-set crash fresh
     setup-bits setup-group made read has-group good-mask refusal step tick act run gained deliveries
 overtaken-waits = refl
@@ -113,7 +113,7 @@ delivered r =
 pub overtaken-delivered : delivered
     (run on-states (run on-states (started three) until-overtaken) until-delivered) ≡ true
 unfolding ℕ-discrete every some first-from absent chosen loop bit with without mask-of only put with-tables
-    ready deliverable deliverable-at merge causal-one causal-all appended raised-next due send-ok send-oks
+    ready lowest-short lowest-awaited short-of awaited deliverable deliverable-at merge causal-one causal-all appended raised-next due send-ok send-oks
     fifo-one cascade raised stamped numbered posted multicast leave mark hold arrival trust-set crash fresh
     setup-bits setup-group made read has-group good-mask refusal step tick act run gained deliveries
 overtaken-delivered = refl
@@ -170,7 +170,7 @@ both-trust live l s (z, g, t0, t1) p q hp hq u lq =
 -- the trust rule holds
 pub crash-rule : TrustRule on-states (started pair) crashing
 unfolding ℕ-discrete every some first-from absent chosen loop bit with without mask-of only put with-tables
-    ready deliverable deliverable-at merge causal-one causal-all appended raised-next due send-ok send-oks
+    ready lowest-short lowest-awaited short-of awaited deliverable deliverable-at merge causal-one causal-all appended raised-next due send-ok send-oks
     fifo-one cascade raised stamped numbered posted multicast leave mark hold arrival trust-set crash fresh
     setup-bits setup-group made read has-group good-mask refusal step tick act run gained deliveries AllAlong
 crash-rule = record {
@@ -212,7 +212,7 @@ survived s =
 -- it is so
 pub crash-delivered : survived (settled (run on-states (started pair) crashing) 5 .world .now) ≡ true
 unfolding ℕ-discrete every some first-from absent chosen loop bit with without mask-of only put with-tables
-    ready deliverable deliverable-at merge causal-one causal-all appended raised-next due send-ok send-oks
+    ready lowest-short lowest-awaited short-of awaited deliverable deliverable-at merge causal-one causal-all appended raised-next due send-ok send-oks
     fifo-one cascade raised stamped numbered posted multicast leave mark hold arrival trust-set crash fresh
     setup-bits setup-group made read has-group good-mask refusal step tick act run gained deliveries
     moves receiver origin kind movable letter-of lowest settle-from settled

@@ -1,6 +1,7 @@
 // The functions that the archive exports. Each but the version returns 0, or the number of the refusal of document 01;
 // what else it answers goes out through a lent number. A refusal leaves everything that was lent as it was.
 use definitions::Amount;
+use definitions::Awaiting;
 use definitions::OrderNumber;
 use definitions::Previewing;
 use definitions::Replaying;
@@ -8,10 +9,10 @@ use definitions::Settling;
 ghost use mathlib.Core.Path.{_≡_};
 ghost use lib.ListN.{length};
 ghost use Rattle.definitions.specs.General.{refusal-in, value-in};
-ghost use Rattle.definitions.specs.Words.{making-refusal, made-words, step-refusal, stepped-words, previewed-words, NewDeliveries, preview-reply, settle-reply, settled-words, log-start, length-reply, order-reply};
+ghost use Rattle.definitions.specs.Words.{making-refusal, made-words, step-refusal, stepped-words, previewed-words, NewDeliveries, preview-reply, settle-reply, settled-words, log-start, length-reply, order-reply, awaited-reply};
 ghost use Rattle.definitions.specs.Journal.{needed-reply, write-refusal, written, count-reply, read-refusal, read-out};
 ghost use Rattle.definitions.specs.Replay.{Counts, replay-reply, replayed-words};
-ghost use Rattle.definitions.specs.Answers.{arrivals-in, done-in, version};
+ghost use Rattle.definitions.specs.Answers.{arrivals-in, done-in, kind-in, process-in, message-in, version};
 
 // The version of the archive, as one number.
 #[no_mangle]
@@ -147,6 +148,42 @@ pub extern "C" fn wt_order(w: &[u16], m: u32, number: &mut u32) -> u32
             0
         }
         OrderNumber::Refused(r) => answers::number(r),
+    }
+}
+
+// Whose message is awaited by a message in the FIFO log of a process and not in its causal log: kind 0, none; 1, that of a
+// process and a message; 2, that of a process alone. What a kind does not have is left as lent: 0, 1, 2, 5, 7 or 18.
+#[no_mangle]
+pub extern "C" fn wt_awaited(
+    w: &[u16],
+    p: u32,
+    m: u32,
+    kind: &mut u32,
+    of: &mut u32,
+    awaited: &mut u32,
+) -> u32
+    ensures answer { λ r. ⌜ r ≡ refusal-in (awaited-reply (now (w .entry)) p m) ⌝ }
+    ensures kind { λ _. ⌜ now (kind .exit) ≡ value-in kind-in (awaited-reply (now (w .entry)) p m) (now (kind .entry)) ⌝ }
+    ensures of { λ _. ⌜ now (of .exit) ≡ value-in (process-in (now (of .entry))) (awaited-reply (now (w .entry)) p m) (now (of .entry)) ⌝ }
+    ensures awaited { λ _. ⌜ now (awaited .exit) ≡ value-in (message-in (now (awaited .entry))) (awaited-reply (now (w .entry)) p m) (now (awaited .entry)) ⌝ }
+{
+    match reading::awaited(w, p as usize, m as usize) {
+        Awaiting::Nothing => {
+            *kind = 0;
+            0
+        }
+        Awaiting::Message(q, x) => {
+            *kind = 1;
+            *of = q;
+            *awaited = x;
+            0
+        }
+        Awaiting::Process(q) => {
+            *kind = 2;
+            *of = q;
+            0
+        }
+        Awaiting::Refused(r) => answers::number(r),
     }
 }
 

@@ -24,7 +24,7 @@ abbrev pub SoundAt : ℕ → State → Type 0
 SoundAt p s = Sound s × (p < s size)
 
 -- one cell that no other test looks at: its own test passes
-put-sound : (s : State) (c : Cell) (v : ℕ) → ¬ Looked c → fit s c v ≡ true → Sound s → Sound (put s c v)
+pub put-sound : (s : State) (c : Cell) (v : ℕ) → ¬ Looked c → fit s c v ≡ true → Sound s → Sound (put s c v)
 unfolding fine
 put-sound s c v away ok h d k =
     fit-on (put s c v) s (λ x l _. put-other s c x v (λ e. away (subst Looked (sym e) l))) h d k

@@ -129,12 +129,15 @@ sound-stepped w bytes h =
     choice true = refl
     choice false = encode-view w (h .long)
 
--- words that are taken are such
-pub taken-sound-words : (w : List ℕ) → needs-world w 0 ≡ 0 → SoundWords w
-taken-sound-words w e =
+-- words that are taken are such, and what comes after 1 and 2 refuses nothing
+pub world-taken : (w : List ℕ) (n : ℕ) → needs-world w n ≡ 0 → SoundWords w × (n ≡ 0)
+world-taken w n e =
     let a = needs-none 0 (eqb (length w) 20480) _ e in
-    let b = needs-none 1 (sound (view w)) 0 (a .1) in
-    record { long = eqb-true (length w) 20480 (a .0); reads = sound-facts (view w) (b .0) }
+    let b = needs-none 1 (sound (view w)) n (a .1) in
+    (record { long = eqb-true (length w) 20480 (a .0); reads = sound-facts (view w) (b .0) }, b .1)
+
+pub taken-sound-words : (w : List ℕ) → needs-world w 0 ≡ 0 → SoundWords w
+taken-sound-words w e = world-taken w 0 e .0
 
 -- the words of a sound state
 pub encoded : (s : State) → Sound s → SoundWords (encode s)

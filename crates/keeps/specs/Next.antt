@@ -2,7 +2,7 @@
 use mathlib.Core.Path.{_≡_, refl, sym, ap, _∙_, fun-ext}
 use Prim.Native.Nat.{ℕ, _-_}
 use Rattle.definitions.specs.World.{Cell, size, count, rule, group, trust, counter, sequence, next, delivered, up, fifo-length, causal-length, held, marks, fifo, causal, sender, mask, stamp, number, flight, order, unused, State, put}
-use Rattle.definitions.specs.Machine.{with-tables, deliverable, deliverable-at, merge, causal-one, causal-all, raised-next}
+use Rattle.definitions.specs.Machine.{with-tables, lowest-short, lowest-awaited, short-of, awaited, deliverable, deliverable-at, merge, causal-one, causal-all, raised-next}
 use Rattle.base.specs.Loop.{loop-related}
 
 -- one causal delivery: each cell is the same
@@ -35,7 +35,7 @@ next-first s p q i (unused a) = refl
 
 -- all of them
 pub next-before : (s : State) (p q : ℕ) → causal-all (raised-next s p q) p ≡ raised-next (causal-all s p) p q
-unfolding causal-all raised-next put deliverable-at deliverable
+unfolding causal-all raised-next put deliverable-at deliverable awaited short-of lowest-short lowest-awaited
 next-before s p q =
     loop-related (λ t. t (fifo-length p)) (λ t. deliverable-at t p) (λ t. causal-one t p)
     (λ _ t u. u ≡ raised-next t p q) (λ t u. u ≡ raised-next t p q) (λ _ t u e. e)

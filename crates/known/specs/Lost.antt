@@ -16,7 +16,7 @@ use borrow.Author.Tests.{eqb-true}
 use Rattle.definitions.specs.General.{every, some, first-from, absent, in-at, tabulate, chosen, loop, bit, with, without, mask-of, only}
 use Rattle.definitions.specs.World.{size, count, causal-length, held, causal, flight, State, put, addressed, has-group}
 use Rattle.definitions.specs.Setup.{fresh, setup-bits, setup-group, good-setup, setup-refusal, made}
-use Rattle.definitions.specs.Machine.{with-tables, ready, deliverable, deliverable-at, merge, causal-one, causal-all, appended, raised-next, due, send-ok, send-oks, fifo-one, cascade, raised, stamped, numbered, posted, multicast, leave, mark, hold, arrival, trust-set, crash}
+use Rattle.definitions.specs.Machine.{with-tables, ready, lowest-short, lowest-awaited, short-of, awaited, deliverable, deliverable-at, merge, causal-one, causal-all, appended, raised-next, due, send-ok, send-oks, fifo-one, cascade, raised, stamped, numbered, posted, multicast, leave, mark, hold, arrival, trust-set, crash}
 use Rattle.definitions.specs.Steps.{Step, multicasts, arrives, loses, trusts, crashes, malformed, read, good-mask, refusal, accepted, step}
 use Rattle.definitions.specs.History.{casted, gained, deliveries, Run, Item, given, taken, tick, act, run, InForce}
 use Rattle.definitions.specs.Words.{log-words, on-words, started-words}
@@ -137,7 +137,7 @@ case-4-facts : (end-4 .now size ≡ 3) × (end-4 .now count ≡ 3)
     × (every 3 (λ k. every 3 (λ q. eqb (end-4 .now (flight 0 k q)) 0)) ≡ true)
     × (knowledge (end-4 .seen) .before 2 0 ≡ true) × (addressed (end-4 .now) 0 2 ≡ true)
 unfolding end-4 ℕ-discrete run act tick gained deliveries knowledge every some first-from absent chosen loop
-    bit with without mask-of only put fresh setup-bits setup-group made with-tables ready deliverable
+    bit with without mask-of only put fresh setup-bits setup-group made with-tables ready lowest-short lowest-awaited short-of awaited deliverable
     deliverable-at merge causal-one causal-all appended raised-next due send-ok send-oks fifo-one cascade
     raised stamped numbered posted multicast leave mark hold arrival trust-set crash read has-group good-mask
     refusal step

@@ -10,7 +10,7 @@ use lib.Dec.{eqb}
 use Rattle.definitions.specs.General.{every, some, first-from, absent, chosen, loop, bit, with, without, mask-of, only, tab-from, tabulate, filled}
 use Rattle.definitions.specs.World.{fifo-length, causal-length, fifo, causal, State, put, has-group, is-process}
 use Rattle.definitions.specs.Setup.{fresh, setup-bits, setup-group, good-setup, setup-refusal, made}
-use Rattle.definitions.specs.Machine.{with-tables, ready, deliverable, deliverable-at, merge, causal-one, causal-all, appended, raised-next, due, send-ok, send-oks, fifo-one, cascade, raised, stamped, numbered, posted, multicast, leave, mark, hold, arrival, trust-set, crash}
+use Rattle.definitions.specs.Machine.{with-tables, ready, lowest-short, lowest-awaited, short-of, awaited, deliverable, deliverable-at, merge, causal-one, causal-all, appended, raised-next, due, send-ok, send-oks, fifo-one, cascade, raised, stamped, numbered, posted, multicast, leave, mark, hold, arrival, trust-set, crash}
 use Rattle.definitions.specs.Steps.{read, good-mask, is-up, refusal, step, after}
 use Rattle.definitions.specs.Settle.{moves, receiver, origin, kind, movable, letter-of, lowest, Ending, done, stopped, settle-from}
 use Rattle.definitions.specs.Checksum.{ones-sum, checksum}
@@ -296,7 +296,7 @@ table =
 pub known-runs : all-pass table ≡ true
 unfolding ℕ-discrete lines-pass row-passes all-pass every some first-from absent chosen loop bit with
     without mask-of only tab-from tabulate put fresh setup-bits setup-group good-setup
-    setup-refusal made with-tables ready deliverable deliverable-at merge causal-one causal-all
+    setup-refusal made with-tables ready lowest-short lowest-awaited short-of awaited deliverable deliverable-at merge causal-one causal-all
     appended raised-next due send-ok send-oks fifo-one cascade raised stamped numbered posted
     block body filled checksum ones-sum multicast leave mark hold arrival trust-set crash read has-group
     good-mask refusal step after

@@ -11,7 +11,7 @@ use lib.ListN.{length}
 use Rattle.definitions.specs.General.{gives, every, some, first-from, absent, chosen, loop, bit, with, without, mask-of, only}
 use Rattle.definitions.specs.World.{up, flight, State, encode, put, view, has-group}
 use Rattle.definitions.specs.Setup.{fresh, setup-bits, setup-group, good-setup, setup-refusal, made}
-use Rattle.definitions.specs.Machine.{with-tables, ready, deliverable, deliverable-at, merge, causal-one, causal-all, appended, raised-next, due, send-ok, send-oks, fifo-one, cascade, raised, stamped, numbered, posted, multicast, leave, mark, hold, arrival, trust-set, crash}
+use Rattle.definitions.specs.Machine.{with-tables, ready, lowest-short, lowest-awaited, short-of, awaited, deliverable, deliverable-at, merge, causal-one, causal-all, appended, raised-next, due, send-ok, send-oks, fifo-one, cascade, raised, stamped, numbered, posted, multicast, leave, mark, hold, arrival, trust-set, crash}
 use Rattle.definitions.specs.Steps.{read, good-mask, in-flight, refusal, step}
 use Rattle.definitions.specs.Settle.{moves, receiver, origin, kind, movable, letter-of, lowest, done, stopped, settle-from}
 use Rattle.definitions.specs.History.{Item, given, settling, tick, act, run}
@@ -50,7 +50,7 @@ computed : (setup-refusal apart ≡ 0)
     × (settle end 33792 .world (up 0) ≡ 0)
     × (refusal end (read losing) ≡ 0)
 unfolding ℕ-discrete every some first-from absent chosen loop bit with without mask-of only put fresh setup-bits
-    setup-group good-setup setup-refusal made with-tables ready deliverable deliverable-at merge causal-one causal-all
+    setup-group good-setup setup-refusal made with-tables ready lowest-short lowest-awaited short-of awaited deliverable deliverable-at merge causal-one causal-all
     appended raised-next due send-ok send-oks fifo-one cascade raised stamped numbered posted multicast leave mark hold
     arrival trust-set crash read has-group good-mask refusal step tick act run moves receiver origin kind movable letter-of
     lowest settle-from settle

@@ -1,23 +1,24 @@
 -- What the counters and logs of a state mean, given its history (Meaning), and that the cascade keeps it:
 -- each causal delivery, each FIFO delivery with next raised, the OKs, and so the two loops. At the end
 -- nothing is left to deliver causally, since the fuel suffices (Fuel of world). Assumes nothing.
-use mathlib.Core.Path.{_≡_, refl, sym, ap, ap₂, _∙_, subst₂}
+use mathlib.Core.Path.{_≡_, sym, ap, ap₂, _∙_, subst₂}
 use mathlib.Core.Bool.{Bool, true, false, _&&_}
 use mathlib.Core.List.{List, _∷_}
 use mathlib.Core.Logic.{inl, inr, _≢_}
 use Prim.Native.Nat.{ℕ, suc, _+_, _-_, _≤_, _<_}
 use native.Mathlib.Omega.{arith}
-use lib.Dec.{leb, eqb}
-use borrow.Author.Tests.{eqb-true, eqb-false, ne-eqb, leb-true, leb-false}
+use lib.Dec.{eqb}
+use borrow.Author.Tests.{eqb-true, ne-eqb, leb-true}
 use Rattle.definitions.specs.General.{every, In}
 use Rattle.definitions.specs.World.{size, count, group, fifo-length, causal-length, fifo, causal, next, delivered, held, sender, stamp, number, State, put, addressed, outside-fifo, outside-causal}
 use Rattle.definitions.specs.Machine.{with-tables, in-turn, marked, ready, fits, deliverable, deliverable-at, merge, causal-one, causal-all, appended, raised-next, fifo-one, cascade}
 use Rattle.definitions.specs.History.{Event, got, deliveries, grown}
-use Rattle.base.specs.Tests.{clash, both-l, both-r, either, at-or-off}
+use Rattle.base.specs.Tests.{both-l, both-r, at-or-off}
 use Rattle.base.specs.Search.{every-true, every-false}
 use Rattle.base.specs.Loop.{loop-keeps}
 use Rattle.base.specs.Count.{absent-out, out-absent, in-dec}
 use Rattle.world.specs.Fuel.{causal-ends}
+use Rattle.world.specs.Awaited.{short-facts, deliverable-every}
 use Rattle.effects.specs.Holding.{HeldTo, held-to}
 use Rattle.effects.specs.Events.{deliveries-same}
 use Rattle.effects.specs.Views.{Messages, messages, Process, process, Scene, scene, Still, still}
@@ -76,7 +77,7 @@ module _ (s : State) (p i : ℕ) where
 
   -- a message that passes the test
   deliverable-facts : deliverable-at s p i ≡ true → Deliverable s p i
-  unfolding deliverable-at deliverable x
+  unfolding deliverable-at x
   deliverable-facts e = record {
     outside =
         absent-out (s (causal-length p)) x (λ j. s (causal p j))
@@ -84,29 +85,24 @@ module _ (s : State) (p i : ℕ) where
     free =
         λ q h ne. leb-true (s (stamp x (s (group p)) q)) (s (delivered p q))
         (simp (ne-eqb q (s (sender x)) ne) at
-        (every-true (s size) (fits s p x) (both-r (outside-causal s p x) (deliverable s p x) e) q h));
+        (every-true (s size) (fits s p x)
+        (sym (deliverable-every s p x) ∙ both-r (outside-causal s p x) (deliverable s p x) e) q h));
   }
 
   -- one that fails it is delivered, or waits
   stuck-facts : deliverable-at s p i ≡ false → Stuck (s size) (messages s) (process s p) (s (fifo p i))
-  unfolding deliverable-at deliverable x
+  unfolding deliverable-at x
   stuck-facts e = go (in-dec (s (causal-length p)) (λ j. s (causal p j)) x)
     where
-      neither : (a b : Bool) → either a b ≡ false → (a ≡ false) × (b ≡ false)
-      neither true b z = clash {b = true} refl z
-      neither false b z = (refl, z)
-
       found : (q : ℕ) × (q < s size) × (fits s p (s (fifo p i)) q ≡ false)
           → Waits (s size) (messages s) (s (group p)) (λ q. s (delivered p q)) (s (fifo p i))
-      found (q, h, z) =
-          let d = neither (eqb q (s (sender x))) (leb (s (stamp x (s (group p)) q)) (s (delivered p q))) z in
-          waits q h (eqb-false q (s (sender x)) (d .0))
-          (leb-false (s (stamp x (s (group p)) q)) (s (delivered p q)) (d .1))
+      found (q, h, z) = let d = short-facts s p x q z in waits q h (d .other) (d .above)
 
       go : Dec (In (s (causal-length p)) (λ j. s (causal p j)) (s (fifo p i)))
           → Stuck (s size) (messages s) (process s p) (s (fifo p i))
       go (yes a) = inl a
-      go (no a) = inr (found (every-false (s size) (fits s p x) (simp (out-absent a) at e)))
+      go (no a) =
+          inr (found (every-false (s size) (fits s p x) (sym (deliverable-every s p x) ∙ (simp (out-absent a) at e))))
 
 -- a message that is ready: held, outside the FIFO log, in turn, marked
 pub record Ready (s : State) (p m : ℕ) : Type 0 where

@@ -119,6 +119,38 @@ module _ {n : ℕ} {w : Messages} {k : Knowledge} (c : Counting n w k) where
       (λ x h. both-less (k .past p x) (of-to w p g x)
       (λ e. rw (of w p g x e) at (c .closed .past-own x h)))
 
+-- ---- one counter tells what is before m: of q's messages to g those before m are a prefix, so x of q to g is among them
+-- where its own count is at most that of m
+module _ {n : ℕ} {w : Messages} {k : Knowledge} (c : Counting n w k) (x m g : ℕ) (hx : x < w .total)
+    (hm : m < w .total) (t : To w g x) where
+  -- if x is not before m, what is before m of its sender is before x, and x is one more
+  fewer : k .before m x ≡ false → w .stamp m g (w .sender x) < w .stamp x g (w .sender x)
+  fewer out =
+      let l = tally-falls (w .total) (λ y. both (k .before x y) (of-to w (w .sender x) g y))
+      (λ y. both (k .before m y) (of-to w (w .sender x) g y)) part x hx
+      (both-i (k .before x x) (of-to w (w .sender x) g x) (c .closed .before-self x hx)
+      (both-i (eqb (w .sender x) (w .sender x)) (bit (w .mask x) g) (eqb-refl (w .sender x)) t))
+      (rw out) in
+      omega (arith, c .stamps m g (w .sender x) hm, c .stamps x g (w .sender x) hx)
+    where
+      part : (y : ℕ) → both (k .before m y) (of-to w (w .sender x) g y) ≡ true
+          → both (k .before x y) (of-to w (w .sender x) g y) ≡ true
+      part y e =
+          let b = both-l (k .before m y) (of-to w (w .sender x) g y) e in
+          let o = both-r (k .before m y) (of-to w (w .sender x) g y) e in
+          let d = of w (w .sender x) g y o in
+          elim (le-or-lt x y) [
+            | inl l ↦ clash (c .closed .before m .prefix y x b l (sym d)) out
+            | inr l ↦ both-i (k .before x y) (of-to w (w .sender x) g y)
+                (sender-before c x y hx (omega arith) d) o
+          ]
+
+  pub counter-before : w .stamp x g (w .sender x) ≤ w .stamp m g (w .sender x) → k .before m x ≡ true
+  counter-before l = elim (bool-cases (k .before m x)) [
+    | inl e ↦ e
+    | inr e ↦ absurd (omega (arith, fewer e))
+  ]
+
 -- ---- a delivery
 union : (a b d : Bool) → both (either b a) d ≡ either (both a d) (both b d)
 union true true true = refl

@@ -8,7 +8,7 @@ use Prim.Native.Nat.{ℕ, zero, suc, _+_, _-_}
 use lib.Dec.{eqb}
 use Rattle.definitions.specs.General.{pick}
 use Rattle.definitions.specs.World.{Cell, size, count, rule, group, trust, counter, sequence, next, delivered, up, fifo-length, causal-length, held, marks, fifo, causal, sender, mask, stamp, number, flight, order, unused, State, put, has-group}
-use Rattle.definitions.specs.Machine.{Tables, with-tables, addressees, in-turn, ready, deliverable, deliverable-at, merge, causal-one, causal-all, appended, raised-next, due, send-ok, send-oks, fifo-one, cascade, raised, stamped, numbered, posted, multicast, leave, mark, hold, arrival, trust-set, crash}
+use Rattle.definitions.specs.Machine.{Tables, with-tables, addressees, in-turn, ready, lowest-short, lowest-awaited, short-of, awaited, deliverable, deliverable-at, merge, causal-one, causal-all, appended, raised-next, due, send-ok, send-oks, fifo-one, cascade, raised, stamped, numbered, posted, multicast, leave, mark, hold, arrival, trust-set, crash}
 use Rattle.definitions.specs.Steps.{Step, multicasts, arrives, loses, trusts, crashes, malformed, good-mask, refusal, accepted, step, after}
 use Rattle.definitions.specs.OrderNumbers.{erased, erased-step}
 use Rattle.base.specs.Loop.{loop-related}
@@ -130,7 +130,7 @@ causal-one-erased s p i =
 
 -- all of them
 causal-all-erased : (s : State) (p : ℕ) → causal-all (erased s) p ≡ erased (causal-all s p)
-unfolding erased causal-all deliverable-at deliverable
+unfolding erased causal-all deliverable-at deliverable awaited short-of lowest-short lowest-awaited
 causal-all-erased s p =
     loop-related (λ t. t (fifo-length p)) (λ t. deliverable-at t p) (λ t. causal-one t p)
     (λ _ t u. u ≡ erased t) (λ t u. u ≡ erased t) (λ _ t u e. e)

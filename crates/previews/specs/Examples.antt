@@ -11,7 +11,7 @@ use lib.ListN.{length}
 use Rattle.definitions.specs.General.{gives, refuses, sum, every, some, first-from, absent, chosen, loop, bit, with, without, mask-of, only}
 use Rattle.definitions.specs.World.{State, put, has-group}
 use Rattle.definitions.specs.Setup.{fresh, setup-bits, setup-group, good-setup, setup-refusal, made}
-use Rattle.definitions.specs.Machine.{with-tables, ready, deliverable, deliverable-at, merge, causal-one, causal-all, appended, raised-next, due, send-ok, send-oks, fifo-one, cascade, raised, stamped, numbered, posted, multicast, leave, mark, hold, arrival, trust-set, crash}
+use Rattle.definitions.specs.Machine.{with-tables, ready, lowest-short, lowest-awaited, short-of, awaited, deliverable, deliverable-at, merge, causal-one, causal-all, appended, raised-next, due, send-ok, send-oks, fifo-one, cascade, raised, stamped, numbered, posted, multicast, leave, mark, hold, arrival, trust-set, crash}
 use Rattle.definitions.specs.Steps.{read, good-mask, refusal, step}
 use Rattle.definitions.specs.History.{Run, Item, given, tick, act, run}
 use Rattle.definitions.specs.Words.{log-words, log-growth, preview-refusal, preview-reply, on-words, started-words}
@@ -150,7 +150,7 @@ all-pass : Passes trusted × Passes both × Passes overtaken × Passes catches-u
     × Passes crashes-none × Passes loses-none
     × (refusal (run on-states (started pair) held-by-0 .now) (read (arriving 2 0 0 0)) ≡ 11)
 unfolding ℕ-discrete every some first-from absent chosen loop bit with without mask-of only put fresh setup-bits
-    setup-group good-setup setup-refusal made with-tables ready deliverable deliverable-at merge causal-one causal-all
+    setup-group good-setup setup-refusal made with-tables ready lowest-short lowest-awaited short-of awaited deliverable deliverable-at merge causal-one causal-all
     appended raised-next due send-ok send-oks fifo-one cascade raised stamped numbered posted multicast leave mark hold
     arrival trust-set crash read has-group good-mask refusal step tick act run sum
 all-pass = (

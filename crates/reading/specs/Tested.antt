@@ -7,15 +7,15 @@ use Prim.Native.Nat.{ℕ, suc, _+_, _≤_, _<_}
 use native.Mathlib.Omega.{arith}
 use lib.Dec.{eqb, ltb}
 use lib.ListN.{length, take, drop, getD}
-use borrow.Author.Tests.{eq-eqb, ne-eqb, lt-ltb, le-ltb, eqb-true, ltb-true}
+use borrow.Author.Tests.{eq-eqb, ne-eqb, lt-ltb, le-ltb, ltb-true}
 use Rattle.definitions.specs.General.{needs, gives, refuses, reply}
-use Rattle.definitions.specs.World.{size, addr, encode, view}
+use Rattle.definitions.specs.World.{size, addr, encode, view, is-message}
 use Rattle.definitions.specs.Sound.{sound}
 use Rattle.definitions.specs.Steps.{read, refusal, after}
-use Rattle.definitions.specs.Words.{needs-world, step-refusal, stepped-words, settled-words, settle-reply, log-length, log-start, log-refusal, log-words, length-reply}
+use Rattle.definitions.specs.Words.{needs-world, step-refusal, stepped-words, settled-words, settle-reply, log-length, log-start, log-refusal, log-words, length-reply, is-waiting, awaited-refusal}
 use Rattle.base.specs.Refusals.{needs-none, reply-gives}
 use Rattle.world.specs.SoundLaws.{sound-facts, size-high, count-high, fifo-length-high, causal-length-high}
-use Rattle.keeps.specs.Keeps.{SoundWords, sound-words-taken, taken-sound-words, sound-refusal, sound-stepped}
+use Rattle.keeps.specs.Keeps.{SoundWords, sound-words-taken, world-taken, taken-sound-words, sound-refusal, sound-stepped}
 
 -- ---- the world
 pub wrong-length : (w : List ℕ) (n : ℕ) → (length w ≡ 20480 → ⊥) → needs-world w n ≡ 1
@@ -77,10 +77,18 @@ is-present w a i n e h = sym (still-taken w (needs n (ltb i (getD w a 0)) 0) e �
 -- what is so where nothing is refused
 pub present : (w : List ℕ) (a i n : ℕ) → present-refusal w a i (suc n) ≡ 0 → SoundWords w × (i < getD w a 0)
 present w a i n e =
-    let z = needs-none 0 (eqb (length w) 20480) _ e in
-    let y = needs-none 1 (sound (view w)) _ (z .1) in
-    let x = needs-none n (ltb i (getD w a 0)) 0 (y .1) in
-    (world-sound w (eqb-true (length w) 20480 (z .0)) (y .0), ltb-true i (getD w a 0) (x .0))
+    let (h, z) = world-taken w _ e in (h, ltb-true i (getD w a 0) (needs-none n (ltb i (getD w a 0)) 0 z .0))
+
+-- where it is refused, it is whatever comes after
+pub present-refused : (w : List ℕ) (a i n rest k : ℕ) → (k ≡ 0 → ⊥) → k ≡ present-refusal w a i n
+    → k ≡ needs-world w (needs n (ltb i (getD w a 0)) rest)
+present-refused w a i n rest k h = go (eqb (length w) 20480) (sound (view w)) (ltb i (getD w a 0))
+  where
+    go : (x y z : Bool) → k ≡ needs 1 x (needs 2 y (needs n z 0)) → k ≡ needs 1 x (needs 2 y (needs n z rest))
+    go true true true e = absurd (h e)
+    go true true false e = e
+    go true false z e = e
+    go false y z e = e
 
 -- a call that is not refused gives its value
 pub not-refused : {A : Type 0} {n : ℕ} {a b : A} → n ≡ 0 → a ≡ b → gives a ≡ reply n b
@@ -125,3 +133,9 @@ length-given w p log n e =
     let r = reply-gives (log-refusal w p) n (log-length (view w) p log) e in
     let z = present w (addr size) p 4 (r .0) in
     (process-inside w p (z .0) (z .1), omega (arith, r .1, log-inside w p log (z .0) (z .1)))
+
+-- ---- whose message is awaited: what comes after 1, 2 and 5
+pub awaited-after : (w : List ℕ) (p m : ℕ) → SoundWords w → p < view w size
+    → awaited-refusal w p m ≡ needs 7 (is-message (view w) m) (needs 18 (is-waiting (view w) p m) 0)
+unfolding awaited-refusal
+awaited-after w p m h there = sound-words-taken w h _ ∙ rw (lt-ltb p (view w size) there)

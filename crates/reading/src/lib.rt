@@ -1,13 +1,14 @@
-// Words that are lent as a world, tested; the logs of a world and the order numbers of its messages read. None of it asks
-// anything of its caller.
+// Words that are lent as a world, tested; the logs of a world and the order numbers of its messages read, and whose message
+// is awaited. None of it asks anything of its caller.
 use definitions::Amount;
+use definitions::Awaiting;
 use definitions::OrderNumber;
 use definitions::Outcome;
 use definitions::Refusal;
 ghost use mathlib.Core.Path.{_≡_};
 ghost use Prim.Native.Nat.{_<_};
-ghost use Rattle.definitions.specs.Words.{needs-world, log-words, length-reply, order-reply};
-ghost use Rattle.definitions.specs.Answers.{refusal-number, outcome-number, amount-reply, order-number-reply};
+ghost use Rattle.definitions.specs.Words.{needs-world, log-words, length-reply, order-reply, awaited-reply};
+ghost use Rattle.definitions.specs.Answers.{refusal-number, outcome-number, amount-reply, order-number-reply, awaiting-reply};
 ghost use Rattle.reading.specs.Tested.{present-refusal};
 
 // Whether the words are a sound world: 1, then 2.
@@ -66,4 +67,20 @@ pub fn order(w: &[u16], m: usize) -> OrderNumber
         return OrderNumber::Refused(r);
     }
     OrderNumber::Is(w[cells::MESSAGES + m * cells::MESSAGE + cells::ORDER])
+}
+
+// Whose message the message m waits for at process p: 1, 2, 5, 7, then 18.
+pub fn awaited(w: &[u16], p: usize, m: usize) -> Awaiting
+    ensures { λ r. ⌜ awaiting-reply r ≡ awaited-reply (now (w .entry)) p m ⌝ }
+{
+    if let Outcome::Refused(r) = present(w, cells::SIZE, p, Refusal::NoProcess) {
+        return Awaiting::Refused(r);
+    }
+    if cells::word(w, cells::COUNT) <= m {
+        return Awaiting::Refused(Refusal::NoMessage);
+    }
+    if awaiting::waits(w, p, m) {
+        return awaiting::answer(w, p, m);
+    }
+    Awaiting::Refused(Refusal::NotWaiting)
 }

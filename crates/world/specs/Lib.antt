@@ -8,3 +8,4 @@ pub mod Calls
 pub mod Kept
 pub mod Local
 pub mod Fuel
+pub mod Awaited

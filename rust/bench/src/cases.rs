@@ -28,6 +28,7 @@ pub fn run(case: &str, side: &Side, processes: usize, messages: usize) -> Option
         }
         "log" => (side.log)(&full(&setup, messages)),
         "order" => order(side, &full(&setup, messages)),
+        "awaited" => awaited(side, &setup, messages),
         "copy" => copy(&full(&setup, messages)),
         "preview" => preview(side, &setup, messages),
         "arrival" => arrival(side, &setup, messages),
@@ -94,6 +95,29 @@ fn order(side: &Side, words: &[u16]) -> usize {
     1
 }
 
+/// The last message of a full world awaits the one before it at process 0, that of the last process: both are found
+/// late.
+fn awaited(side: &Side, setup: &[u8], messages: usize) -> usize {
+    let last = usize::from(setup[1]) - 1;
+    assert_eq!((side.awaited)(&overtaking(setup, messages)), (last, messages - 2));
+    1
+}
+
+/// The full world in which process 0 lacks the message before the last. That one is of the last process, and the last
+/// one of the process before, which has delivered it.
+fn overtaking(setup: &[u8], messages: usize) -> Vec<u16> {
+    let mut world = sound::read(&full(setup, messages - 2)).expect("a sound world");
+    trust_all_but_the_first(&mut world);
+    let last = world.processes.len() - 1;
+    for sender in [last, last - 1] {
+        multicast_to_others(&mut world, sender);
+    }
+    take(&mut world, &ok_of_the_second(messages - 1));
+    let process = &world.processes[0];
+    assert_eq!((process.fifo_log.len(), process.causal_log.len()), (messages - 1, messages - 2));
+    words::encode(&world)
+}
+
 /// The words of a world, copied.
 fn copy(words: &[u16]) -> usize {
     let mut to = vec![0; words.len()];
@@ -142,33 +166,47 @@ fn release(side: &Side, setup: &[u8], messages: usize) -> usize {
     1
 }
 
-/// The world before that step, and the step. Nobody trusts process 0, so that each message is delivered at all others
-/// before the next is multicast; process 0 trusts process 1 alone, whose OK brings it a message and lets it deliver that
-/// in FIFO order. The first message is of the middle process, the others of the processes but that one and 0, in turn.
+/// The world before that step, and the step. The first message is of the middle process, the others of the processes
+/// but that one and 0, in turn.
 fn held_back(setup: &[u8], messages: usize) -> (Vec<u16>, Record) {
     let mut world = World::fresh(setup).expect("a good setup");
+    trust_all_but_the_first(&mut world);
     let processes = world.processes.len();
-    let others = ((1_u32 << processes) - 2) as u16;
-    for p in 0..processes {
-        take(&mut world, &record::trust(p, if p == 0 { 2 } else { others }));
-    }
-    let groups = ((1_u32 << ((processes + 1) / 2)) - 1) as u8;
     let middle = processes / 2;
     let senders: Vec<usize> = (1..processes).filter(|&p| p != middle).collect();
     for m in 0..messages {
         let sender = if m == 0 { middle } else { senders[m % senders.len()] };
-        take(&mut world, &record::multicast(sender, groups));
-        while let Some(letter) = world.flight.iter().copied().find(|letter| letter.to != 0) {
-            take(&mut world, &record::arrival(letter));
-        }
+        multicast_to_others(&mut world, sender);
     }
-    let ok = |message| record::arrival(Letter { message, kind: Kind::Ok, from: 1, to: 0 });
     for m in 1..messages {
-        take(&mut world, &ok(m));
+        take(&mut world, &ok_of_the_second(m));
     }
     let process = &world.processes[0];
     assert_eq!((process.fifo_log.len(), process.causal_log.len()), (messages - 1, 0));
-    (words::encode(&world), ok(0))
+    (words::encode(&world), ok_of_the_second(0))
+}
+
+/// Nobody trusts process 0, so that the others deliver without it; process 0 trusts process 1 alone, whose OK brings it
+/// a message and lets it deliver that in FIFO order.
+fn trust_all_but_the_first(world: &mut World) {
+    let others = ((1_u32 << world.processes.len()) - 2) as u16;
+    for p in 0..world.processes.len() {
+        take(world, &record::trust(p, if p == 0 { 2 } else { others }));
+    }
+}
+
+/// A message to all groups, which all processes but 0 deliver.
+fn multicast_to_others(world: &mut World, sender: usize) {
+    let groups = ((1_u32 << world.groups()) - 1) as u8;
+    take(world, &record::multicast(sender, groups));
+    while let Some(letter) = world.flight.iter().copied().find(|letter| letter.to != 0) {
+        take(world, &record::arrival(letter));
+    }
+}
+
+/// The OK of process 1 arrives at process 0.
+fn ok_of_the_second(message: usize) -> Record {
+    record::arrival(Letter { message, kind: Kind::Ok, from: 1, to: 0 })
 }
 
 fn take(world: &mut World, step: &[u8]) {

@@ -1,6 +1,7 @@
 //! The two sides: the archive and the second implementation, each call in a function of its own whose instructions can
 //! be counted (wt_.. in the archive, reference_.. here).
 
+use reference::awaited::Awaited;
 use reference::{calls, journal, sound};
 
 extern "C" {
@@ -20,6 +21,8 @@ pub struct Side {
     pub log: fn(&[u16]) -> usize,
     /// The order number of the last message.
     pub order: fn(&[u16]) -> u16,
+    /// The process and the message that the last message awaits at process 0.
+    pub awaited: fn(&[u16]) -> (usize, usize),
     pub step: fn(&mut [u16], &[u8]),
     /// The numbers of FIFO and causal deliveries.
     pub preview: fn(&[u16], &[u8], &mut [u16]) -> (u32, u32),
@@ -36,6 +39,10 @@ pub const ARCHIVE: Side = Side {
     make: |words, setup| engine::world::make(words, setup).expect("a good setup"),
     log: |words| engine::world::log(words, 0, true).expect("a sound world").len(),
     order: |words| engine::world::order(words, LAST as u32).expect("a full world"),
+    awaited: |words| match engine::world::awaited(words, 0, LAST as u32) {
+        Ok(engine::Awaited::Message { of, message }) => (of.into(), message.into()),
+        other => panic!("a message is awaited: {other:?}"),
+    },
     step: |words, step| {
         let _ = engine::world::step(words, step);
     },
@@ -56,6 +63,7 @@ pub const REFERENCE: Side = Side {
     make: reference_make,
     log: reference_log,
     order: reference_order,
+    awaited: reference_awaited,
     step: reference_step,
     preview: reference_preview,
     settle: reference_settle,
@@ -85,7 +93,7 @@ pub fn reference_sound(words: &[u16]) {
 #[no_mangle]
 #[inline(never)]
 pub fn reference_deliverable(words: &[u16]) -> bool {
-    sound::read(words).expect("a sound world").is_deliverable(0, LAST)
+    sound::read(words).expect("a sound world").deliverable(0, LAST) == Awaited::Nothing
 }
 
 #[no_mangle]
@@ -104,6 +112,15 @@ pub fn reference_log(words: &[u16]) -> usize {
 #[inline(never)]
 pub fn reference_order(words: &[u16]) -> u16 {
     calls::order(words, LAST).expect("a full world")
+}
+
+#[no_mangle]
+#[inline(never)]
+pub fn reference_awaited(words: &[u16]) -> (usize, usize) {
+    match calls::awaited(words, 0, LAST) {
+        Ok(Awaited::Message { of, message }) => (of, message),
+        other => panic!("a message is awaited: {other:?}"),
+    }
 }
 
 /// A copy by memcpy, which the mark of a preview has in it.

@@ -20,7 +20,7 @@ use std::process::ExitCode;
 use std::thread;
 use std::time::Instant;
 use tally::Tally;
-use world::waiting;
+use world::{awaited, waiting};
 
 /// A capability to compare.
 struct Area {
@@ -35,7 +35,7 @@ struct Area {
     weight: u64,
 }
 
-const AREAS: [Area; 8] = [
+const AREAS: [Area; 9] = [
     Area { name: "journal", input: journal::input, answers: journal::ANSWERS, cover: &[], weight: 1 },
     Area { name: "world", input: world::input, answers: world::ANSWERS, cover: world::COVER, weight: 50 },
     Area {
@@ -58,6 +58,13 @@ const AREAS: [Area; 8] = [
         answers: waiting::ANSWERS,
         cover: waiting::COVER,
         weight: 100,
+    },
+    Area {
+        name: "awaited",
+        input: awaited::input,
+        answers: awaited::ANSWERS,
+        cover: awaited::COVER,
+        weight: 50,
     },
     Area {
         name: "settle",

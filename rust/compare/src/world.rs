@@ -1,5 +1,7 @@
-//! The calls on a lent world: worlds sound and not, setups, lists of steps, previews, settles and journals to replay.
+//! The calls on a lent world: worlds sound and not, setups, lists of steps, previews, settles, journals to replay, and
+//! whose message is awaited.
 
+pub mod awaited;
 mod calls;
 mod inputs;
 pub mod waiting;
@@ -25,6 +27,7 @@ pub const ANSWERS: &[(&str, &[u32])] = &[
     ("order, a number", &[0]),
     ("order, none", &[0]),
     ("order", &[1, 2, 7]),
+    ("awaited", &[1, 2, 5, 7, 18]),
     ("step", &[0, 1, 2, 4, 5, 6, 7, 8, 9, 10, 11, 12]),
     ("preview, none added", &[0]),
     ("preview, length of the world", &[1]),
@@ -153,12 +156,14 @@ fn one_order_changed(turn: u64, random: &mut Random, tally: &mut Tally) -> Resul
     Ok(())
 }
 
-/// A log and an order number, and now and then a step, its preview and a settle.
+/// A log, an order number and what is awaited, and now and then a step, its preview and a settle.
 fn all_calls(words: &[u16], random: &mut Random, tally: &mut Tally) -> Result<(), Difference> {
     let words = Lent::holding(random, words);
     let process = random.below(18) as u32;
     calls::log(&words, process, random.one_in(2), tally)?;
     calls::order(&words, inputs::message(random, words.part()), tally)?;
+    let message = inputs::message(random, words.part());
+    calls::awaited(&words, process, message, random, tally)?;
     if random.one_in(4) {
         let step = inputs::any_step(random);
         calls::step(&words, &step, random, tally)?;

@@ -26,6 +26,15 @@ extern "C" {
         length: *mut u32,
     ) -> u32;
     fn wt_order(world: *const u16, world_length: usize, message: u32, number: *mut u32) -> u32;
+    fn wt_awaited(
+        world: *const u16,
+        world_length: usize,
+        process: u32,
+        message: u32,
+        kind: *mut u32,
+        of: *mut u32,
+        awaited: *mut u32,
+    ) -> u32;
     fn wt_step(world: *mut u16, world_length: usize, step: *const u8, step_length: usize) -> u32;
     fn wt_preview(
         world: *const u16,
@@ -94,6 +103,18 @@ pub fn world_log(world: &[u16], process: u32, causal: bool, start: &mut u32, len
 pub fn order(world: &[u16], message: u32, number: &mut u32) -> u32 {
     version::test(version());
     unsafe { wt_order(world.as_ptr(), world.len(), message, number) }
+}
+
+pub fn awaited(
+    world: &[u16],
+    process: u32,
+    message: u32,
+    kind: &mut u32,
+    of: &mut u32,
+    awaited: &mut u32,
+) -> u32 {
+    version::test(version());
+    unsafe { wt_awaited(world.as_ptr(), world.len(), process, message, kind, of, awaited) }
 }
 
 pub fn step(world: &mut [u16], step: &[u8]) -> u32 {

@@ -34,11 +34,12 @@ pub enum Refusal {
     Block = 15,
     RecordsLength = 16,
     OutputLength = 17,
+    NotWaiting = 18,
 }
 
 impl Refusal {
     /// All refusals, in the order of their numbers.
-    pub const ALL: [Refusal; 17] = [
+    pub const ALL: [Refusal; 18] = [
         Refusal::WorldLength,
         Refusal::NotSound,
         Refusal::Setup,
@@ -56,6 +57,7 @@ impl Refusal {
         Refusal::Block,
         Refusal::RecordsLength,
         Refusal::OutputLength,
+        Refusal::NotWaiting,
     ];
 
     /// The answer of the archive: 0, or a refusal's number.
@@ -71,7 +73,7 @@ impl Refusal {
         self as u32
     }
 
-    /// Who causes it, and how, for whoever looks it up: the words of document 01.
+    /// Who causes it, and how, for whoever looks it up: the words of document 01, and for 18 those of document 02.
     pub fn text(self) -> &'static str {
         match self {
             Refusal::WorldLength => "whoever lends storage: world not 20,480 words",
@@ -99,6 +101,9 @@ impl Refusal {
                 "whoever writes one: records length 0, no multiple of 8, over 8,064 records"
             }
             Refusal::OutputLength => "whoever writes one: output length not what is needed",
+            Refusal::NotWaiting => {
+                "the state of the mill: message that isn't in that process's FIFO log or is already in its causal log"
+            }
         }
     }
 
@@ -128,6 +133,9 @@ impl Refusal {
                 "a journal is written of 1 to 8,064 records of 8 bytes, and these are not"
             }
             Refusal::OutputLength => "what was lent for the output is not just as long as the output",
+            Refusal::NotWaiting => {
+                "that message does not wait at that process: its FIFO log lacks it, or its causal log has it already"
+            }
         }
     }
 }

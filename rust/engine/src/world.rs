@@ -152,6 +152,30 @@ impl World {
         order(&self.words, message.into())
     }
 
+    /// Whose message is awaited by one that is in the FIFO log of a process, up or down, and not in its causal log. In
+    /// a world that steps reached it is always [`Awaited::Message`]; if that message is in the FIFO log, it waits there
+    /// too, and can be asked for in turn. Refusals 5, 7, 18.
+    ///
+    /// ```
+    /// use engine::{Awaited, LetterKind, Refusal, Step, World};
+    ///
+    /// // The call, message 2, overtakes the recipe, message 0, which precedes it.
+    /// let mut world = World::new(&[0, 1, 2])?;
+    /// world.step(Step::multicast(0, &[2])?)?;
+    /// world.step(Step::multicast(0, &[1])?)?;
+    /// world.step(Step::arrival(LetterKind::First, 1, 0, 1))?;
+    /// world.step(Step::arrival(LetterKind::Ok, 1, 1, 1))?;
+    /// world.step(Step::multicast(1, &[2])?)?;
+    /// world.step(Step::arrival(LetterKind::First, 2, 1, 2))?;
+    /// world.step(Step::arrival(LetterKind::Ok, 2, 2, 2))?;
+    /// assert_eq!(world.awaited(2, 2), Ok(Awaited::Message { of: 0, message: 0 }));
+    /// assert_eq!(world.awaited(2, 0), Err(Refusal::NotWaiting));
+    /// # Ok::<(), Refusal>(())
+    /// ```
+    pub fn awaited(&self, process: u8, message: u8) -> Result<Awaited, Refusal> {
+        awaited(&self.words, process.into(), message.into())
+    }
+
     /// The number of processes.
     pub fn processes(&self) -> usize {
         layout::processes(&self.words)
@@ -216,6 +240,33 @@ pub fn order(world: &[u16], message: u32) -> Result<u16, Refusal> {
     let mut number = 0;
     Refusal::check(raw::order(world, message, &mut number))?;
     Ok(u16::try_from(number).expect("an order number has 16 bits"))
+}
+
+/// What is awaited by a message that is in the FIFO log of a process and not in its causal log. In a world that steps
+/// reached it is always a message, which precedes that one and is not in the causal log; the others are met only in
+/// words that were edited or damaged and are still sound.
+#[derive(Clone, Copy, Debug, PartialEq, Eq)]
+pub enum Awaited {
+    /// Nothing: the message is deliverable.
+    Nothing,
+    /// This message, whose sender is the process `of`.
+    Message { of: u8, message: u8 },
+    /// A message of the process `of`, and there is none that would be the next.
+    Process { of: u8 },
+}
+
+/// Whose message is awaited at a process by a message. Refusals 1, 2, 5, 7, 18.
+pub fn awaited(world: &[u16], process: u32, message: u32) -> Result<Awaited, Refusal> {
+    let (mut kind, mut of, mut awaited) = (0, 0, 0);
+    Refusal::check(raw::awaited(world, process, message, &mut kind, &mut of, &mut awaited))?;
+    let [of, message] =
+        [of, awaited].map(|number| u8::try_from(number).expect("a process or a message of the world"));
+    match kind {
+        0 => Ok(Awaited::Nothing),
+        1 => Ok(Awaited::Message { of, message }),
+        2 => Ok(Awaited::Process { of }),
+        _ => panic!("the archive has three kinds of answers"),
+    }
 }
 
 /// Takes a step of 8 bytes. Refusals 1, 2, 4 to 12.

@@ -1,8 +1,8 @@
 //! The wrapper states what the C header states: the header's test program prints the stored lines, and so does the
-//! wrapper here. The refusals' words are those of the table in docs/REFUSALS.md, and of document 01 as docs/TRACE.md has
-//! its sentences.
+//! wrapper here. The refusals' words are those of the table in docs/REFUSALS.md, and of documents 01 and 02 as
+//! docs/TRACE.md has their sentences.
 
-use engine::{journal, LetterKind, Previewed, Record, Refusal, Setup, Step, World};
+use engine::{journal, Awaited, LetterKind, Previewed, Record, Refusal, Setup, Step, World};
 use engine::{GROUPS, MESSAGES, PROCESSES, SETTLE_ALL, WORDS};
 use std::fs;
 use std::path::Path;
@@ -102,6 +102,32 @@ fn world() -> Result<Vec<String>, Refusal> {
     Ok(lines)
 }
 
+/// A message that waits; then edited words, in which nothing is awaited, or a process alone.
+fn awaited() -> Result<Vec<String>, Refusal> {
+    let mut world = World::new(&[0, 1, 2])?;
+    world.step(Step::multicast(0, &[2])?)?;
+    world.step(Step::multicast(0, &[1])?)?;
+    world.step(Step::arrival(LetterKind::First, 1, 0, 1))?;
+    world.step(Step::arrival(LetterKind::Ok, 1, 1, 1))?;
+    world.step(Step::multicast(1, &[2])?)?;
+    world.step(Step::arrival(LetterKind::First, 2, 1, 2))?;
+    world.step(Step::arrival(LetterKind::Ok, 2, 2, 2))?;
+    let mut lines = vec!["refused: 0".to_string()];
+    let (del, counter) = (3 + 2 * 429 + 154, 6_867 + 2 + 2 * 16);
+    let edits = [("as it is", 0, 3), ("del[0] 1", del, 1), ("C[2][0] of message 0 2", counter, 2)];
+    for (what, place, word) in edits {
+        let mut words = world.words().to_vec();
+        words[place] = word;
+        let answer = match World::from_words(words)?.awaited(2, 2)? {
+            Awaited::Nothing => "nothing".to_string(),
+            Awaited::Message { of, message } => format!("message {message} of process {of}"),
+            Awaited::Process { of } => format!("process {of}"),
+        };
+        lines.push(format!("awaited at process 2 by message 2, {what}: {answer}"));
+    }
+    Ok(lines)
+}
+
 #[test]
 fn the_wrapper_states_what_the_header_states() {
     let mut lines = vec![version()];
@@ -109,6 +135,7 @@ fn the_wrapper_states_what_the_header_states() {
     lines.extend(refusals());
     lines.extend(records().unwrap());
     lines.extend(world().unwrap());
+    lines.extend(awaited().unwrap());
     assert_eq!(lines.join("\n") + "\n", read("tests/header/header.out"));
 }
 
@@ -160,7 +187,7 @@ fn refusals_have_the_words_of_the_table() {
 #[test]
 fn refusals_have_the_words_of_document_01() {
     let trace = read("docs/TRACE.md");
-    for refusal in Refusal::ALL {
+    for refusal in Refusal::ALL.into_iter().filter(|refusal| refusal.number() <= 17) {
         let (who, words) = refusal.text().split_once(": ").expect("who, then how");
         let sentence = trace
             .lines()
@@ -171,6 +198,14 @@ fn refusals_have_the_words_of_document_01() {
         let item = format!("{} {words}", refusal.number());
         assert!(sentence.split("; ").any(|part| part == item), "{item}");
     }
+}
+
+#[test]
+fn refusal_18_has_the_words_of_document_02() {
+    let trace = read("docs/TRACE.md");
+    let (_, words) = Refusal::NotWaiting.text().split_once(": ").expect("who, then how");
+    let sentence = format!("| It refuses with 18, after 7, a {words}. |");
+    assert!(trace.lines().any(|line| line.starts_with(&sentence)), "{sentence}");
 }
 
 #[test]

@@ -1,7 +1,7 @@
 //! What whoever runs a mill has to know: what to carry, what to keep, and when a world or a journal is full.
 
-use engine::{journal, raw, Letter, LetterKind, Previewed, Record, Refusal, Settled, Setup, Step, World};
-use engine::{MESSAGES, PROCESSES, SETTLE_ALL, WORDS};
+use engine::{journal, raw, Letter, LetterKind, Record, Refusal, Setup, Step, World};
+use engine::{Awaited, Previewed, Settled, MESSAGES, PROCESSES, SETTLE_ALL, WORDS};
 
 /// A world and the records that led to it.
 struct Mill {
@@ -336,9 +336,8 @@ fn a_preview_shows_what_a_step_does_and_does_nothing() {
     assert!(deliveries > 20, "{deliveries}");
 }
 
-/// The call overtakes the recipe: first it would be FIFO-delivered alone, and the recipe would bring both.
-#[test]
-fn a_preview_tells_fifo_deliveries_from_causal_ones() {
+/// The call, message 2, overtakes the recipe, message 0: its last letter to the mixer, process 2, is in flight.
+fn overtaken() -> Mill {
     let mut mill = Mill::new(&[0, 1, 2]);
     mill.multicast(0, &[2]);
     mill.multicast(0, &[1]);
@@ -346,6 +345,13 @@ fn a_preview_tells_fifo_deliveries_from_causal_ones() {
     mill.take(Step::arrival(LetterKind::Ok, 1, 1, 1));
     mill.multicast(1, &[2]);
     mill.take(Step::arrival(LetterKind::First, 2, 1, 2));
+    mill
+}
+
+/// First the call would be FIFO-delivered alone, and the recipe would bring both.
+#[test]
+fn a_preview_tells_fifo_deliveries_from_causal_ones() {
+    let mut mill = overtaken();
     let call = Step::arrival(LetterKind::Ok, 2, 2, 2);
     assert_eq!(mill.world.preview(call).unwrap().1, Previewed { fifo: 1, causal: 0 });
     mill.take(call);
@@ -399,6 +405,123 @@ fn a_refused_preview_changes_nothing_that_was_lent() {
     }
     assert_eq!(world.preview_bytes(&refused[..7]), Err(Refusal::Form));
     assert_eq!(world.preview(Step::crash(4)), Err(Refusal::Down));
+}
+
+/// That mill, once the call is in the FIFO log of the mixer, where it waits.
+fn waiting() -> Mill {
+    let mut mill = overtaken();
+    mill.take(Step::arrival(LetterKind::Ok, 2, 2, 2));
+    mill
+}
+
+#[test]
+fn the_call_awaits_the_recipe_until_it_is_delivered() {
+    let mut mill = waiting();
+    for letter in [Step::arrival(LetterKind::First, 0, 0, 2), Step::arrival(LetterKind::Ok, 0, 2, 2)] {
+        let before = mill.world.clone();
+        assert_eq!(mill.world.awaited(2, 2), Ok(Awaited::Message { of: 0, message: 0 }));
+        assert_eq!(mill.world.awaited(2, 0), Err(Refusal::NotWaiting), "not in the FIFO log");
+        assert_eq!(mill.world, before);
+        mill.take(letter);
+    }
+    for message in [0, 2] {
+        assert_eq!(mill.world.awaited(2, message), Err(Refusal::NotWaiting), "in the causal log");
+    }
+    assert_eq!(Refusal::NotWaiting.number(), 18);
+}
+
+#[test]
+fn what_is_awaited_at_a_machine_that_is_down_can_be_asked() {
+    let mut mill = waiting();
+    mill.take(Step::crash(2));
+    mill.take(Step::crash(0));
+    assert_eq!(mill.world.awaited(2, 2), Ok(Awaited::Message { of: 0, message: 0 }));
+    assert_eq!(mill.world.awaited(1, 1), Err(Refusal::NotWaiting));
+}
+
+/// Message 4 waits for 2, which has come, and that one for 0, which has not.
+#[test]
+fn asking_on_leads_to_a_message_that_has_not_come() {
+    let mut mill = Mill::new(&[0, 1, 2, 3]);
+    mill.multicast(3, &[2]);
+    mill.multicast(3, &[0]);
+    mill.take(Step::arrival(LetterKind::First, 1, 3, 0));
+    mill.take(Step::arrival(LetterKind::Ok, 1, 0, 0));
+    mill.multicast(0, &[2]);
+    mill.multicast(0, &[1]);
+    mill.take(Step::arrival(LetterKind::First, 3, 0, 1));
+    mill.take(Step::arrival(LetterKind::Ok, 3, 1, 1));
+    mill.multicast(1, &[2]);
+    for (message, from) in [(4, 1), (2, 0)] {
+        mill.take(Step::arrival(LetterKind::First, message, from, 2));
+        mill.take(Step::arrival(LetterKind::Ok, message, 2, 2));
+    }
+    assert_eq!((mill.world.fifo_log(2), mill.world.causal_log(2)), (Ok(&[4, 2][..]), Ok(&[][..])));
+    assert_eq!(mill.world.awaited(2, 4), Ok(Awaited::Message { of: 0, message: 2 }));
+    assert_eq!(mill.world.awaited(2, 2), Ok(Awaited::Message { of: 3, message: 0 }));
+    assert_eq!(mill.world.awaited(2, 0), Err(Refusal::NotWaiting));
+    mill.carry();
+    assert_eq!(mill.causal_log(2), [0, 2, 4]);
+}
+
+/// Where the words of a world have del[0] of process 2, and C[2][0] of message 0.
+const DEL: usize = 3 + 2 * 429 + 154;
+const COUNTER: usize = 6_867 + 2 + 2 * 16;
+
+/// The words of the mill in which the call waits, with one of them edited.
+fn edited(place: usize, word: u16) -> Vec<u16> {
+    let mut words = waiting().world.words().to_vec();
+    assert_ne!(words[place], word);
+    words[place] = word;
+    words
+}
+
+/// Such words are sound, but no steps lead there.
+#[test]
+fn in_edited_words_nothing_may_be_awaited_or_a_process_alone() {
+    let cases = [
+        (waiting().world.words().to_vec(), (1, 0, 0), Awaited::Message { of: 0, message: 0 }),
+        (edited(DEL, 1), (0, 8, 9), Awaited::Nothing),
+        (edited(COUNTER, 0), (2, 0, 9), Awaited::Process { of: 0 }),
+        (edited(COUNTER, 2), (2, 0, 9), Awaited::Process { of: 0 }),
+    ];
+    for (words, numbers, answer) in cases {
+        let lent = words.clone();
+        let (mut kind, mut of, mut awaited) = (7, 8, 9);
+        assert_eq!(raw::awaited(&lent, 2, 2, &mut kind, &mut of, &mut awaited), 0);
+        assert_eq!((kind, of, awaited), numbers, "the rest as lent");
+        assert_eq!(lent, words);
+        assert_eq!(World::from_words(words).unwrap().awaited(2, 2), Ok(answer));
+    }
+}
+
+#[test]
+fn a_refused_question_changes_nothing_that_was_lent() {
+    let sound = waiting().world.words().to_vec();
+    let mut unsound = sound.clone();
+    unsound[0] = 17;
+    let cases = [
+        (&sound[1..], 3, 3, 1),
+        (&unsound[..], 3, 3, 2),
+        (&unsound[..], 2, 2, 2),
+        (&sound[..], 3, 3, 5),
+        (&sound[..], 256, 2, 5),
+        (&sound[..], 2, 3, 7),
+        (&sound[..], 2, u32::MAX, 7),
+        (&sound[..], 2, 0, 18),
+        (&sound[..], 2, 1, 18),
+        (&sound[..], 1, 1, 18),
+    ];
+    for (words, process, message, answer) in cases {
+        let lent = words.to_vec();
+        let (mut kind, mut of, mut awaited) = (7, 8, 9);
+        assert_eq!(raw::awaited(&lent, process, message, &mut kind, &mut of, &mut awaited), answer);
+        assert_eq!((kind, of, awaited), (7, 8, 9), "refusal {answer}");
+        assert_eq!(lent, words);
+    }
+    let world = World::from_words(sound).unwrap();
+    assert_eq!(world.awaited(3, 0), Err(Refusal::Process));
+    assert_eq!(world.awaited(2, 3), Err(Refusal::Message));
 }
 
 #[test]

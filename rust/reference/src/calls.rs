@@ -1,5 +1,6 @@
 //! The calls on a lent world of 20,480 words. A refusal changes nothing that was lent.
 
+use crate::awaited::Awaited;
 use crate::replay;
 use crate::settle::Settled;
 use crate::sound;
@@ -74,6 +75,11 @@ pub fn log(words: &[u16], process: usize, causal: bool) -> Result<&[u16], Refusa
 pub fn order(words: &[u16], message: usize) -> Result<u16, Refusal> {
     let world = sound::read(words)?;
     world.messages.get(message).map(|message| message.order).ok_or(Refusal::NoMessage)
+}
+
+/// Document 02, card 5: whose message is awaited at a process by a message. Refusals 1, 2, 5, 7, 18.
+pub fn awaited(words: &[u16], process: usize, message: usize) -> Result<Awaited, Refusal> {
+    sound::read(words)?.awaited(process, message)
 }
 
 /// Replays a journal: the number of records after the setup, and how many of these were refused. Refusals 1, 13,

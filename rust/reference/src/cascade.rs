@@ -1,5 +1,7 @@
-//! Document 01, "Cascade at p": FIFO deliveries, and the causal deliveries that each makes possible.
+//! Document 01, "Cascade at p": FIFO deliveries, and the causal deliveries that each makes possible. The answer of card
+//! 5 of document 02 says what is deliverable.
 
+use crate::awaited::Awaited;
 use crate::world::{Kind, World};
 
 impl World {
@@ -20,11 +22,11 @@ impl World {
     /// Held, outside the FIFO log, in turn, with marks from every trusted process of each addressed group.
     fn is_ready(&self, p: usize, message: usize) -> bool {
         let process = &self.processes[p];
-        let awaited = |q: usize| process.trust[q] && self.is_addressee(message, q);
+        let waited_for = |q: usize| process.trust[q] && self.is_addressee(message, q);
         process.held[message]
             && !process.fifo_log.contains(&message)
             && self.is_in_turn(p, message)
-            && (0..self.processes.len()).all(|q| !awaited(q) || process.marks[message][q])
+            && (0..self.processes.len()).all(|q| !waited_for(q) || process.marks[message][q])
     }
 
     fn fifo_deliver(&mut self, p: usize, message: usize) {
@@ -46,15 +48,8 @@ impl World {
     fn earliest_deliverable(&self, p: usize) -> Option<usize> {
         let process = &self.processes[p];
         let outside = |message: &&usize| !process.causal_log.contains(message);
-        process.fifo_log.iter().filter(outside).copied().find(|&message| self.is_deliverable(p, message))
-    }
-
-    /// For all q other than the sender, the message's C[group of p][q] is at most del[q].
-    pub fn is_deliverable(&self, p: usize, message: usize) -> bool {
-        let process = &self.processes[p];
-        let message = &self.messages[message];
-        let counters = &message.counters[process.group];
-        (0..self.processes.len()).all(|q| q == message.sender || counters[q] <= process.del[q])
+        let deliverable = |message: &usize| self.deliverable(p, *message) == Awaited::Nothing;
+        process.fifo_log.iter().filter(outside).copied().find(deliverable)
     }
 
     fn causally_deliver(&mut self, p: usize, message: usize) {

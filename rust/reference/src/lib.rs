@@ -1,8 +1,9 @@
-//! The second implementation of document 01 and of cards 1, 2 and 4 of document 02, written from the papers for
+//! The second implementation of document 01 and of cards 1, 2, 4 and 5 of document 02, written from the papers for
 //! clarity, to be held against the archive.
 
 #![forbid(unsafe_code)]
 
+pub mod awaited;
 pub mod calls;
 mod cascade;
 pub mod journal;

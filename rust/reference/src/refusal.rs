@@ -1,4 +1,4 @@
-//! Document 01, "Refusals, by who causes them".
+//! Document 01, "Refusals, by who causes them", and the one of card 5 of document 02.
 
 /// A refusal; its value is its number. It changes nothing that was lent.
 #[derive(Clone, Copy, Debug, PartialEq, Eq)]
@@ -37,6 +37,8 @@ pub enum Refusal {
     RecordsLength = 16,
     /// Output length not what is needed.
     OutputLength = 17,
+    /// Message not in the FIFO log of the process, or already in its causal log.
+    NotWaiting = 18,
 }
 
 impl Refusal {

@@ -1,4 +1,4 @@
-//! The names of processes, by which a picture labels their lines.
+//! The names of processes, by which a picture labels their lines, and words call them.
 
 const LONGEST: usize = 24;
 
@@ -39,6 +39,14 @@ impl Names {
     /// The labels with names.
     pub fn labels(&self) -> impl Iterator<Item = String> + '_ {
         (0..self.0.len()).map(|process| self.label(process as u8))
+    }
+
+    /// What a process is called in words.
+    pub fn name(&self, process: u8) -> String {
+        match self.0.get(usize::from(process)) {
+            Some(name) => name.clone(),
+            None => format!("process {process}"),
+        }
     }
 
     /// What stands at the line of a process.

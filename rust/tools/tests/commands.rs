@@ -9,6 +9,7 @@ use support::root;
 
 const JOURNAL_TEXT: &str = env!("CARGO_BIN_EXE_journal-text");
 const SPACE_TIME: &str = env!("CARGO_BIN_EXE_space-time");
+const AWAITED: &str = env!("CARGO_BIN_EXE_awaited");
 
 fn run(program: &str, arguments: &[&str], input: &[u8]) -> Output {
     let mut child = Command::new(program)
@@ -52,15 +53,18 @@ fn what_is_refused_is_told() {
         "refusal 15: this block's number, its count of records or a byte that must be zero is wrong\n";
     refused(run(JOURNAL_TEXT, &["to-text"], &wrong), 1, &format!("journal-text: {reason}"));
     refused(run(SPACE_TIME, &[], &wrong), 1, &format!("space-time: {reason}"));
+    refused(run(AWAITED, &[], &wrong), 1, &format!("awaited: {reason}"));
 }
 
 #[test]
 fn wrong_arguments_show_the_usage() {
-    let wrong: [(&str, &[&str]); 4] = [
+    let wrong: [(&str, &[&str]); 6] = [
         (JOURNAL_TEXT, &[]),
         (JOURNAL_TEXT, &["to"]),
         (SPACE_TIME, &["--names"]),
         (SPACE_TIME, &["office", "-"]),
+        (AWAITED, &["--names"]),
+        (AWAITED, &["office", "-"]),
     ];
     for (program, arguments) in wrong {
         let output = run(program, arguments, b"");
@@ -85,9 +89,26 @@ fn wrong_names_are_told() {
     ];
     for (names, reason) in wrong {
         refused(run(SPACE_TIME, names, &journal), 1, &format!("space-time: {reason}\n"));
+        refused(run(AWAITED, names, &journal), 1, &format!("awaited: {reason}\n"));
     }
     let one_process = stored("tests/journals/known-1.journal");
     refused(run(SPACE_TIME, &["a", "b"], &one_process), 1, "space-time: 2 names for 1 process\n");
+}
+
+#[test]
+fn what_is_awaited_is_printed_and_nothing_where_nothing_waits() {
+    let waits = "process 2: message 2 waits for 0 of process 0, which has not arrived\n";
+    let with_names = "mixer: message 2 waits for 0 of office, which has not arrived\n";
+    for (name, line, named) in
+        [("known-3-waiting", waits, with_names), ("known-4", waits, with_names), ("known-3", "", "")]
+    {
+        let journal = stored(&format!("tests/journals/{name}.journal"));
+        for (names, printed) in [(&[][..], line), (&["office", "weighbridge", "mixer"][..], named)] {
+            let output = run(AWAITED, names, &journal);
+            assert!(output.status.success() && output.stderr.is_empty(), "{name}");
+            assert_eq!(String::from_utf8_lossy(&output.stdout), printed, "{name}");
+        }
+    }
 }
 
 /// The pictures of the documents, made by:

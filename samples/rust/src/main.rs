@@ -2,9 +2,10 @@
 //! The weighbridge acts on the release and calls the batch at the mixers (2). The line from the office to the mixers is
 //! slow, and the call comes before the recipe: the mixer has the call, but does not act on it before the recipe, which
 //! causally precedes it. The recipe and the batch are for one sales order, whose number they carry; the release is for
-//! none. Before the last letter of the call and that of the recipe arrive, previews show what each would do.
+//! none. Before the last letter of the call and that of the recipe arrive, previews show what each would do; in between
+//! the engine says whose message the call awaits.
 
-use engine::{LetterKind, Refusal, Step, World};
+use engine::{Awaited, LetterKind, Refusal, Step, World};
 
 const NAMES: [&str; 3] = ["office", "weighbridge", "mixer"];
 const BODIES: [&str; 3] = ["the new recipe", "release of lorry 7", "call for the batch"];
@@ -74,6 +75,14 @@ impl Mill {
         }
     }
 
+    /// Whose message is awaited by one that a machine has and does not act on yet.
+    fn print_awaited(&self, machine: u8, message: u8) -> Result<(), Refusal> {
+        if let Awaited::Message { of, message: awaited } = self.world.awaited(machine, message)? {
+            println!("message {message} waits at {} for message {awaited} of {}", name(machine), name(of));
+        }
+        Ok(())
+    }
+
     fn print_logs(&self) -> Result<(), Refusal> {
         for machine in [OFFICE, WEIGHBRIDGE, MIXER] {
             println!("{}", logs(&self.world, machine)?);
@@ -124,6 +133,7 @@ fn main() -> Result<(), Refusal> {
     mill.preview(LetterKind::Ok, 2, MIXER, MIXER)?;
     mill.arrive(LetterKind::Ok, 2, MIXER, MIXER)?;
     mill.print_letters();
+    mill.print_awaited(MIXER, 2)?;
     mill.print_logs()?;
     mill.arrive(LetterKind::First, 0, OFFICE, MIXER)?;
     mill.preview(LetterKind::Ok, 0, MIXER, MIXER)?;

@@ -5,9 +5,9 @@ use mathlib.Core.List.{List}
 use Prim.Native.Nat.{ℕ, _<_}
 use lib.Dec.{eqb, ltb}
 use borrow.Author.Tests.{eq-eqb, ne-eqb, lt-ltb, le-ltb}
-use Rattle.definitions.specs.General.{pick, every}
-use Rattle.definitions.specs.World.{view, size}
-use Rattle.definitions.specs.Machine.{fits, deliverable}
+use Rattle.definitions.specs.General.{pick}
+use Rattle.definitions.specs.World.{view}
+use Rattle.definitions.specs.Machine.{deliverable}
 use Rattle.definitions.specs.Words.{needs-world}
 use Rattle.keeps.specs.Keeps.{taken-sound-words}
 use Rattle.bounds.specs.Bounds.{sound-bounds}
@@ -51,9 +51,8 @@ fits-all-requires c κs =
 
 -- the answer, once the tests before the last have passed
 answer : (w : List ℕ) (p m : ℕ) (b : Bool) → needs-world w 0 ≡ 0 → p < 16 → m < 64
-    → b ≡ every (view w size) (fits (view w) p m)
+    → b ≡ deliverable (view w) p m
     → pick {A = ℕ} b 1 0 ≡ pick (eqb (needs-world w 0) 0 && ltb p 16 && ltb m 64 && deliverable (view w) p m) 1 0
-unfolding deliverable
 answer w p m b e hp hm h = rw (eq-eqb (needs-world w 0) 0 e, lt-ltb p 16 hp, lt-ltb m 64 hm, ← h)
 
 returns-4 : tie.Need-returns-4

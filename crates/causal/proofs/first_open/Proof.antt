@@ -4,12 +4,11 @@ use mathlib.Core.Path.{_≡_, sym, ap, _∙_, subst}
 use Prim.Native.Nat.{ℕ, _^_, _<_}
 use native.Mathlib.Omega.{arith}
 use borrow.Author.Needs.{needs}
-use Rattle.definitions.specs.General.{every}
 use Rattle.sets.specs.Lowest.{lowest}
 use Rattle.sets.specs.Sweep.{Sweep, sweep-start, sweep-low, sweep-hit, sweep-more, sweep-end, sweep-less}
 use Rattle.index.specs.Index.{is-open, frame}
-use Rattle.definitions.specs.Machine.{fits}
-use Rattle.definitions.specs.World.{view, size, fifo}
+use Rattle.definitions.specs.Machine.{deliverable}
+use Rattle.definitions.specs.World.{view, fifo}
 use Rattle.causal.specs.Open.{Earliest, Waits, earliest-hit, earliest-none}
 use Rattle.causal.proofs.first_open.Statement.{statement}
 use Rattle.causal.proofs.first_open.Tie as tie
@@ -59,14 +58,14 @@ answer : (c : tie.After-fits-all Inv-loop μ-loop)
     → let l = c .before .before .before .before in
     let a = l .before .before .args in
     c .fits-all .result
-    ≡ every (view (a .w .now) size) (fits (view (a .w .now)) (a .p) (view (a .w .now) (fifo (a .p) (lowest (l .loop .left)))))
+    ≡ deliverable (view (a .w .now)) (a .p) (view (a .w .now) (fifo (a .p) (lowest (l .loop .left))))
 answer c =
     let o = c .before .before in
     let l = o .before .before in
     let a = l .before .before .args in
     let v = view (a .w .now) in
     c .fits-all .ensures
-    ∙ ap (λ (y : ℕ). every (v size) (fits v (a .p) y))
+    ∙ ap (deliverable v (a .p))
     (c .before .word .ensures ∙ ap (λ (i : ℕ). v (fifo (a .p) i)) (o .lowest .ensures))
 
 returns : tie.Need-returns Inv-loop μ-loop

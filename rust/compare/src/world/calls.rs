@@ -6,13 +6,14 @@ use crate::lent::Lent;
 use crate::tally::{number, Tally};
 use engine::raw;
 use engine::world as archive;
+use reference::awaited::Awaited;
 use reference::calls::{self as second, Previewed};
 use reference::random::Random;
 use reference::words::{encode, WORDS};
 use reference::world::World;
 use reference::Refusal;
 
-type Compared = Result<(), Difference>;
+pub type Compared = Result<(), Difference>;
 
 pub fn make(words: &Lent<u16>, setup: &[u8], random: &mut Random, tally: &mut Tally) -> Compared {
     let setup = Lent::holding(random, setup);
@@ -77,6 +78,57 @@ fn same_order(words: &Lent<u16>, message: u32, right: Result<u16, Refusal>, tall
     same("order: lent number", given, right.map_or(before, u32::from))?;
     let wrapped = archive::order(words.part(), message).map_err(|refusal| refusal.number());
     same("order: wrapper", wrapped, right.map_err(Refusal::number))
+}
+
+/// Whose message is awaited, on lent words that need not be sound.
+pub fn awaited(
+    words: &Lent<u16>,
+    process: u32,
+    message: u32,
+    random: &mut Random,
+    tally: &mut Tally,
+) -> Compared {
+    let right = second::awaited(words.part(), process as usize, message as usize);
+    same_awaited(words, process, message, right, random, tally)
+}
+
+/// The archive gives this answer, or this refusal. The words stay as they were, and so do the lent numbers that the
+/// answer does not have.
+pub fn same_awaited(
+    words: &Lent<u16>,
+    process: u32,
+    message: u32,
+    right: Result<Awaited, Refusal>,
+    random: &mut Random,
+    tally: &mut Tally,
+) -> Compared {
+    let lent = words.clone();
+    let before = [random.next(), random.next(), random.next()].map(|number| number as u32);
+    let [mut kind, mut of, mut awaited] = before;
+    let answer = raw::awaited(lent.part(), process, message, &mut kind, &mut of, &mut awaited);
+    let (call, numbers) = match right {
+        Ok(Awaited::Nothing) => ("awaited, nothing", [0, before[1], before[2]]),
+        Ok(Awaited::Message { of, message }) => ("awaited, a message", [1, of as u32, message as u32]),
+        Ok(Awaited::Process { of }) => ("awaited, a process alone", [2, of as u32, before[2]]),
+        Err(_) => ("awaited", before),
+    };
+    tally.answer(call, number(&right));
+    same("awaited: answer", answer, number(&right))?;
+    same("awaited: lent numbers", [kind, of, awaited], numbers)?;
+    lent.same(words, "awaited: world")?;
+    let wrapped = archive::awaited(lent.part(), process, message).map(of_wrapper);
+    same("awaited: wrapper", wrapped.map_err(|refusal| refusal.number()), right.map_err(Refusal::number))
+}
+
+/// The wrapper's answer as the second implementation has it.
+fn of_wrapper(answer: archive::Awaited) -> Awaited {
+    match answer {
+        archive::Awaited::Nothing => Awaited::Nothing,
+        archive::Awaited::Message { of, message } => {
+            Awaited::Message { of: of.into(), message: message.into() }
+        }
+        archive::Awaited::Process { of } => Awaited::Process { of: of.into() },
+    }
 }
 
 /// A step on lent words that need not be sound.
