@@ -1,28 +1,29 @@
 -- Runs and worlds that meet the hypotheses of `awaits`, computed on states: a chain of two links, carried to any lent
 -- words; and sound worlds that no list reaches, each a reached one with a word or two changed, in which every case of the
 -- answer occurs and each slip that no reached world shows would answer otherwise. Assumes nothing.
-use mathlib.Core.Path.{_≡_, refl, _∙_}
+use mathlib.Core.Path.{_≡_, refl, sym, ap, _∙_}
 use mathlib.Core.Bool.{true, false}
 use mathlib.Core.List.{List, [], _∷_}
-use Prim.Native.Nat.{ℕ}
+use Prim.Native.Nat.{ℕ, _<_}
 use native.Mathlib.Decide.{ℕ-discrete}
 use native.Mathlib.Omega.{arith}
 use lib.ListN.{length}
-use Rattle.definitions.specs.General.{every, some, first-from, absent, chosen, loop, bit, with, without, mask-of, only, in-at}
-use Rattle.definitions.specs.World.{size, fifo-length, causal-length, fifo, delivered, stamp, State, put, has-group}
+use Rattle.definitions.specs.General.{gives, reply, every, some, first-from, absent, chosen, loop, bit, with, without, mask-of, only, in-at}
+use Rattle.definitions.specs.World.{size, fifo-length, causal-length, fifo, delivered, stamp, State, put, has-group, view}
 use Rattle.definitions.specs.Sound.{fit, sends}
 use Rattle.definitions.specs.Setup.{fresh, setup-bits, setup-group, good-setup, setup-refusal, made}
 use Rattle.definitions.specs.Machine.{with-tables, ready, Awaited, yes-now, message-of, process-alone, lowest-short, lowest-awaited, short-of, awaited, deliverable, deliverable-at, merge, causal-one, causal-all, appended, raised-next, due, send-ok, send-oks, fifo-one, cascade, raised, stamped, numbered, posted, multicast, leave, mark, hold, arrival, trust-set, crash}
 use Rattle.definitions.specs.Steps.{read, good-mask, refusal, step}
 use Rattle.definitions.specs.History.{Item, given, tick, act, run}
-use Rattle.definitions.specs.Words.{making-refusal, is-waiting, on-words, started-words}
-use Rattle.definitions.specs.Awaits.{Waits, Named}
+use Rattle.definitions.specs.Words.{making-refusal, is-waiting, awaited-reply, on-words, started-words}
+use Rattle.definitions.specs.Awaits.{Waits, Named, Chain}
 use Rattle.world.specs.SoundLaws.{Sound}
 use Rattle.world.specs.Runs.{on-states, started}
 use Rattle.keeps.specs.Changes.{put-sound}
 use Rattle.keeps.specs.Keeps.{run-sound, reached-sound}
 use Rattle.order.specs.Runs.{with-history}
-use Rattle.carried.specs.Calls.{making-carried, log-carried, listed-in, in-listed}
+use Rattle.carried.specs.Same.{awaited-agree}
+use Rattle.carried.specs.Calls.{making-carried, view-agree, log-carried, listed-in, in-listed}
 use Rattle.carried.specs.Carried.{words-after}
 use Rattle.awaits.specs.Theorem.{awaits}
 
@@ -97,6 +98,17 @@ module _ (w : List ℕ) (long : length w ≡ 20480) where
 
   pub linked-named : Named (run on-words (started-words w four) linked) 2 4
   linked-named = awaits .named w four linked made-taken 2 4 linked-waits
+
+  pub linked-answer : awaited-reply (run on-words (started-words w four) linked .now) 2 4 ≡ gives (message-of 1 2)
+  unfolding awaited-reply
+  linked-answer =
+      let now = run on-words (started-words w four) linked .now in
+      ap (λ (n : ℕ). reply n (awaited (view now) 2 4)) (awaits .answered now 2 4 .1 linked-waits)
+      ∙ ap gives (ap (λ (u : List ℕ). awaited (view u) 2 4) (words-after w four made-taken linked)
+      ∙ sym (awaited-agree (view-agree end sound-end) 2 (omega arith) 4 (omega arith)) ∙ computed .5)
+
+  pub linked-chain : (xs : List ℕ) × Chain (run on-words (started-words w four) linked) 2 4 xs × (length xs < 64)
+  linked-chain = awaits .chain w four linked made-taken 2 4 linked-waits
 
 -- ---- the third known run, until message 2's letters have arrived at process 2: processes 0, 1, 2 in groups 0, 1, 2
 abbrev three : List ℕ

@@ -9,7 +9,7 @@ use native.Mathlib.Omega.{arith}
 use native.Mathlib.Decide.{ℕ-discrete}
 use borrow.Author.Tests.{lt-ltb, not-true, not-false}
 use Rattle.definitions.specs.General.{tally, in-at}
-use Rattle.definitions.specs.World.{size, count, group, delivered, fifo, sender, stamp, State, addressed}
+use Rattle.definitions.specs.World.{size, count, group, delivered, fifo, sender, stamp, State}
 use Rattle.definitions.specs.Machine.{fits, message-of, lowest-short, lowest-awaited, short-of, awaited}
 use Rattle.definitions.specs.History.{Before, Run}
 use Rattle.base.specs.Tests.{bool-cases, le-or-lt, clash, both, both-l, both-r, both-i, same}
@@ -78,9 +78,6 @@ pub record Told (r : Run State) (p m : ℕ) : Type 0 where
   pub undelivered : ¬ Causal (r .now) p message
 
 module _ {r : Run State} (w : Whole r) (p m : ℕ) (f : Fifo (r .now) p m) (out : ¬ Causal (r .now) p m) where
-  abbrev s : State
-  s = r .now
-
   abbrev g : ℕ
   g = r .now (group p)
 
@@ -116,8 +113,8 @@ module _ {r : Run State} (w : Whole r) (p m : ℕ) (f : Fifo (r .now) p m) (out 
           arith,
           n .turn,
           h .above,
-          ap (λ (y : ℕ). r .now (stamp x (r .now (group p)) y)) (n .of),
-          ap (λ (y : ℕ). r .now (stamp m (r .now (group p)) y)) (n .of),
+          ap (λ (y : ℕ). r .now (stamp x g y)) (n .of),
+          ap (λ (y : ℕ). r .now (stamp m g y)) (n .of),
         ))
 
     another : x ≢ m
@@ -130,9 +127,9 @@ module _ {r : Run State} (w : Whole r) (p m : ℕ) (f : Fifo (r .now) p m) (out 
           arith,
           n .turn,
           w .meaning .each p .causal-log .prefix .in-below i k,
-          ap (λ (y : ℕ). r .now (stamp y (r .now (group p)) (r .now (sender y)))) e,
+          ap (λ (y : ℕ). r .now (stamp y g (r .now (sender y)))) e,
           ap (λ (y : ℕ). r .now (delivered p (r .now (sender y)))) e,
-          ap (λ (y : ℕ). r .now (stamp x (r .now (group p)) y)) (n .of),
+          ap (λ (y : ℕ). r .now (stamp x g y)) (n .of),
           ap (λ (y : ℕ). r .now (delivered p y)) (n .of),
         )
 
@@ -157,20 +154,18 @@ module _ {r : Run State} (w : Whole r) (p m : ℕ) (f : Fifo (r .now) p m) (out 
       (a ∙ rw (lt-ltb x (r .now count) hx))
     where
       there : lowest-awaited (r .now) p q < r .now count
-      there = elim (next-there (w .meaning .counting) m (r .now (group p)) q (r .now (delivered p q)) message-low (h .above)) [
+      there = elim (next-there (w .meaning .counting) m g q (r .now (delivered p q)) message-low (h .above)) [
         | one-with y hy o t ↦ elim (le-or-lt (r .now count) (lowest-awaited (r .now) p q)) [
           | inr l ↦ l
           | inl l ↦ clash
-              (next-is (r .now) p q y (record { of = of-sender y o; to = to-group y o; turn = t }))
+              (next-is (r .now) p q y (record {
+                of = of (messages (r .now)) q g y o;
+                to = to (messages (r .now)) q g y o;
+                turn = t;
+              }))
               (lowest-awaited-law (r .now) p q .miss y (omega arith) (omega arith))
         ]
       ]
-        where
-          of-sender : (y : ℕ) → of-to (messages (r .now)) q (r .now (group p)) y ≡ true → r .now (sender y) ≡ q
-          of-sender y o = of (messages (r .now)) q (r .now (group p)) y o
-
-          to-group : (y : ℕ) → of-to (messages (r .now)) q (r .now (group p)) y ≡ true → addressed (r .now) y p ≡ true
-          to-group y o = to (messages (r .now)) q (r .now (group p)) y o
 
   -- so every waiting message is told whose message it awaits, and which
   pub all-told : Told r p m

@@ -39,6 +39,10 @@ module _ (w : List ℕ) (h : SoundWords w) (p : ℕ) (hp : p < view w size) wher
       ap (λ (u : List ℕ). log-words u p log) (sym (encode-view w (h .long)))
       ∙ log-carried (view w) (h .reads) p hp log
 
+-- whether it has m
+listed-dec : (xs : List ℕ) (m : ℕ) → Dec (Listed xs m)
+listed-dec xs m = in-dec (length xs) (λ i. getD xs i 0) m
+
 -- a log with anything in it is that of a process of a sound world
 nothing-in : {xs : List ℕ} {m : ℕ} → xs ≡ [] → Listed xs m → ⊥
 nothing-in e (in-at i l d) = omega (arith, ap length e)
@@ -139,12 +143,15 @@ module _ (r : Run State) (w : Whole r) where
         go (named-written m y) (λ x l z. chain-down k x (omega arith) z)
       where
         go : Named (written r) p m → ((x : ℕ) → x < m → Waits (encode (r .now)) p x → Ended x) → Ended m
-        go n rest = elim (in-dec (length (log-words (encode (r .now)) p false)) (λ i. getD (log-words (encode (r .now)) p false) i 0) (n .message)) [
-          | yes f ↦
-              let (xs, c, l) = rest (n .message) (lower w (n .message) m (n .precedes)) (f, n .undelivered) in
-              (n .message ∷ xs, goes (n .answer) (n .precedes) c, omega (arith, lower w (n .message) m (n .precedes)))
-          | no f ↦ (n .message ∷ [], goes (n .answer) (n .precedes) (ends f), omega (arith, lower w (n .message) m (n .precedes)))
-        ]
+        go n rest =
+            let x = n .message in
+            let down = lower w x m (n .precedes) in
+            elim (listed-dec (log-words (encode (r .now)) p false) x) [
+              | yes f ↦
+                  let (xs, c, l) = rest x down (f, n .undelivered) in
+                  (x ∷ xs, goes (n .answer) (n .precedes) c, omega arith)
+              | no f ↦ (x ∷ [], goes (n .answer) (n .precedes) (ends f), omega arith)
+            ]
 
     pub chain-written : (m : ℕ) → Waits (encode (r .now)) p m
         → (xs : List ℕ) × Chain (written r) p m xs × (length xs < 64)

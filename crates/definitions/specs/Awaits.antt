@@ -17,7 +17,7 @@ use Rattle.definitions.specs.Demand.{Fifo, Causal, To}
 abbrev pub Waits : List ℕ → ℕ → ℕ → Type 0
 Waits w p m = Fifo w p m × (¬ Causal w p m)
 
--- The answer for m at p is neither yes nor a process alone. It names a message, one of the process of to the group of p,
+-- The answer for m at p is neither yes nor a process alone: it names a process and a message of it, to the group of p,
 pub record Named (r : Run (List ℕ)) (p m : ℕ) : Type 0 where
   pub of : ℕ
   pub message : ℕ
