@@ -241,7 +241,7 @@ module _ {r : Run State} (w : Whole r) (v : Live (is-up (r .now)) (r .now)) (cal
               let fy = w .meaning .each x .fifo-log .prefix .below-in y hy ay
               (omega (
                 arith,
-                stamp-lt c m y g hm ly e am,
+                stamp-lt c m y g hm ly am,
                 c .numbers m g hm,
                 marked-by x hx mx .1,
                 ap (λ (z : ℕ). r .now (stamp y g z)) e,

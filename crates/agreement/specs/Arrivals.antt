@@ -16,7 +16,7 @@ use Rattle.definitions.specs.Machine.{with-tables, addressees, in-turn, raised,
 use Rattle.definitions.specs.History.{Event}
 use Rattle.base.specs.Bits.{with-old, with-hit, with-cases, bit-mask-of}
 use Rattle.world.specs.Layout.{put-same, put-at}
-use Rattle.world.specs.SoundLaws.{Sound, size-high, letter-facts, held-facts, mark-facts, sender-low, fifo-addressed}
+use Rattle.world.specs.SoundLaws.{Sound, size-high, letter-facts, held-facts, mark-facts, sender-low, fifo-exists}
 use Rattle.world.specs.StepLaws.{InFlight}
 use Rattle.world.specs.Kept.{mark-cases, hold-cases}
 use Rattle.effects.specs.Views.{messages, Process, process, Ground}
@@ -211,7 +211,7 @@ module _ (s : State) (k m q p : ℕ) (l : InFlight s k m q p) (sound : Sound s)
         inl (
           h,
           ap (λ (o : Process). o .fifo i) e,
-          ltb-true (s (fifo r i)) (s count) (fifo-addressed s sound r i hr h .of),
+          fifo-exists s sound r i hr h,
         );
     senders = sender-low s sound;
   }
@@ -238,7 +238,7 @@ lost-net s k m q p sound d n = net-progress s (leave s k m q p) (record {
   new-near = λ x r hx hr h y. inl (hx, h, y);
   new-message = λ x hx. inl hx;
   logged =
-      λ r i hr hi. inl (hi, refl, ltb-true (s (fifo r i)) (s count) (fifo-addressed s sound r i hr hi .of));
+      λ r i hr hi. inl (hi, refl, fifo-exists s sound r i hr hi);
   senders = sender-low s sound;
 }) n
 
@@ -321,7 +321,7 @@ module _ (s : State) (es : List Event) (p groups order-no : ℕ) (o : MeaningOf 
         (inr (λ u hu au. rw (w .new-sender) (first-letters u hu au)))
         (λ x hx. inl hx);
     logged =
-        λ r i hr hi. inl (hi, refl, ltb-true (s (fifo r i)) (s count) (fifo-addressed s sound r i hr hi .of));
+        λ r i hr hi. inl (hi, refl, fifo-exists s sound r i hr hi);
     senders = sender-low s sound;
   }) n
     where

@@ -14,10 +14,11 @@ use Rattle.definitions.specs.Sound.{fit, sends}
 use Rattle.definitions.specs.Setup.{fresh, setup-bits, setup-group, good-setup, setup-refusal, made}
 use Rattle.definitions.specs.Machine.{with-tables, ready, Awaited, yes-now, message-of, process-alone, lowest-short, lowest-awaited, short-of, awaited, deliverable, deliverable-at, merge, causal-one, causal-all, appended, raised-next, due, send-ok, send-oks, fifo-one, cascade, raised, stamped, numbered, posted, multicast, leave, mark, hold, arrival, trust-set, crash}
 use Rattle.definitions.specs.Steps.{read, good-mask, refusal, step}
-use Rattle.definitions.specs.History.{Item, given, tick, act, run}
+use Rattle.definitions.specs.History.{Item, tick, act, run}
 use Rattle.definitions.specs.Words.{making-refusal, is-waiting, awaited-reply, on-words, started-words}
 use Rattle.definitions.specs.Awaits.{Waits, Named, Chain}
 use Rattle.world.specs.SoundLaws.{Sound}
+use Rattle.world.specs.Items.{multicasting, arriving, three, until-overtaken}
 use Rattle.world.specs.Runs.{on-states, started}
 use Rattle.keeps.specs.Changes.{put-sound}
 use Rattle.keeps.specs.Keeps.{run-sound, reached-sound}
@@ -26,13 +27,6 @@ use Rattle.carried.specs.Same.{awaited-agree}
 use Rattle.carried.specs.Calls.{making-carried, view-agree, log-carried, listed-in, in-listed}
 use Rattle.carried.specs.Carried.{words-after}
 use Rattle.awaits.specs.Theorem.{awaits}
-
--- ---- items
-abbrev multicasting : ℕ → ℕ → Item
-multicasting p groups = given (1 ∷ p ∷ groups ∷ 0 ∷ 0 ∷ 0 ∷ 0 ∷ 0 ∷ [])
-
-abbrev arriving : ℕ → ℕ → ℕ → ℕ → Item
-arriving k m q p = given (2 ∷ k ∷ m ∷ q ∷ p ∷ 0 ∷ 0 ∷ 0 ∷ [])
 
 -- in a sound world s, message m waits at process p and gets this answer
 pub record Gets (s : State) (p m : ℕ) (a : Awaited) : Type 0 where
@@ -110,10 +104,7 @@ module _ (w : List ℕ) (long : length w ≡ 20480) where
   pub linked-chain : (xs : List ℕ) × Chain (run on-words (started-words w four) linked) 2 4 xs × (length xs < 64)
   linked-chain = awaits .chain w four linked made-taken 2 4 linked-waits
 
--- ---- the third known run, until message 2's letters have arrived at process 2: processes 0, 1, 2 in groups 0, 1, 2
-abbrev three : List ℕ
-three = 0 ∷ 3 ∷ 136 ∷ 0 ∷ 0 ∷ 0 ∷ 0 ∷ 0 ∷ []
-
+-- ---- from the setup of the third known run, processes 0, 1, 2 in groups 0, 1, 2
 abbrev after-items : List Item → State
 after-items items = run on-states (started three) items .now
 
@@ -126,17 +117,6 @@ three-taken = refl
 
 items-sound : (items : List Item) → Sound (run on-states (started three) items .now)
 items-sound items = reached-sound three items three-taken
-
-abbrev until-overtaken : List Item
-until-overtaken =
-    multicasting 0 4
-    ∷ multicasting 0 2
-    ∷ arriving 0 1 0 1
-    ∷ arriving 2 1 1 1
-    ∷ multicasting 1 4
-    ∷ arriving 0 2 1 2
-    ∷ arriving 2 2 2 2
-    ∷ []
 
 abbrev overtaken : State
 overtaken = after-items until-overtaken

@@ -198,7 +198,7 @@ next-once {r} w p q x y hx hy nx ny = elim (ℕ-discrete x y) [
     rises a b h l na nb =
         omega (
           arith,
-          stamp-lt (w .meaning .counting) b a (r .now (group p)) h l (na .of ∙ sym (nb .of)) (nb .to),
+          stamp-lt (w .meaning .counting) b a (r .now (group p)) h l (nb .to),
           na .turn,
           nb .turn,
           ap (λ (v : ℕ). r .now (stamp a (r .now (group p)) v)) (nb .of),

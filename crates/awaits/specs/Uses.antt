@@ -5,6 +5,8 @@ use mathlib.Core.Bool.{true, false}
 use mathlib.Core.List.{List, []}
 use mathlib.Core.Logic.{_≢_}
 use Prim.Native.Nat.{ℕ, zero, suc, _<_}
+use native.Mathlib.Nat.{not-suc-le-zero}
+use native.Mathlib.Omega.{arith}
 use lib.ListN.{length}
 use Rattle.definitions.specs.General.{Reply, value-in, bit, Listed}
 use Rattle.definitions.specs.World.{count, group, sender, mask, view}
@@ -82,8 +84,19 @@ module _ (w setup : List ℕ) (taken : making-refusal w setup ≡ 0) (items : Li
       subst (λ (y : ℕ). Listed (log-words (r .now) p false) (followed p (length xs) y) → ⊥)
       (sym (ap (λ (a : Reply Awaited). value-in (message-in m) a m) e)) (chain-end p c)
 
+  -- each message named precedes the one before it
+  chain-steps : (p : ℕ) {m : ℕ} {xs : List ℕ} → Chain r p m xs → (j : ℕ) → j < length xs
+      → Before (r .seen) (followed p (suc j) m) (followed p j m)
+  chain-steps p (ends out) j l = absurd (not-suc-le-zero l)
+  chain-steps p (goes {m} {q} {x} e b c) zero l =
+      subst (λ (y : ℕ). Before (r .seen) y m) (sym (ap (λ (a : Reply Awaited). value-in (message-in m) a m) e)) b
+  chain-steps p (goes {m} {q} {x} e b c) (suc j) l =
+      subst (λ (y : ℕ). Before (r .seen) (followed p (suc j) y) (followed p j y))
+      (sym (ap (λ (a : Reply Awaited). value-in (message-in m) a m) e)) (chain-steps p c j (omega arith))
+
   pub ends-within : (p m : ℕ) → Listed (log-words (r .now) p false) m → (Listed (log-words (r .now) p true) m → ⊥)
       → (k : ℕ) × (k < 64) × (Listed (log-words (r .now) p false) (followed p k m) → ⊥)
+      × ((j : ℕ) → j < k → Before (r .seen) (followed p (suc j) m) (followed p j m))
   ends-within p m f out =
       let (xs, c, l) = awaits .chain w setup items taken p m (f, out) in
-      (length xs, l, chain-end p c)
+      (length xs, l, chain-end p c, chain-steps p c)

@@ -21,7 +21,7 @@ use Rattle.base.specs.Tests.{both-l, both-r}
 use Rattle.base.specs.Refusals.{needs-none}
 use Rattle.base.specs.Count.{in-dec, absent-in, absent-out, in-absent, out-absent}
 use Rattle.world.specs.Layout.{encode-view}
-use Rattle.world.specs.SoundLaws.{size-high, count-high, fifo-addressed}
+use Rattle.world.specs.SoundLaws.{size-high, count-high, fifo-exists}
 use Rattle.world.specs.Calls.{refused-same}
 use Rattle.keeps.specs.Keeps.{SoundWords, sound-words-taken, world-taken}
 use Rattle.effects.specs.Logs.{log-item}
@@ -85,7 +85,7 @@ module _ (w : List ℕ) (p m : ℕ) where
     where
       logged-low : SoundWords w → p < view w size → FifoIn (view w) p m → m < view w count
       logged-low h hp (in-at i l e) =
-          rw e at (ltb-true (view w (fifo p i)) (view w count) (fifo-addressed (view w) (h .reads) p i hp l .of))
+          rw e at (fifo-exists (view w) (h .reads) p i hp l)
 
 -- ---- on the words of a run
 module _ (r : Run State) (w : Whole r) where

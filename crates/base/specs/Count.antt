@@ -1,5 +1,5 @@
--- Counting: how many below n pass a test, the last that does, the one with j ahead of it, and what stands in a list given by a
--- function and its length; with the room that distinct numbers leave. Assumes nothing.
+-- Counting: how many below n pass a test, the last that does, the one with j ahead of it, and what stands in a
+-- list given by a function and its length; with the room that distinct numbers leave. Assumes nothing.
 use mathlib.Core.Path.{_≡_, refl, sym, ap, _∙_}
 use mathlib.Core.Bool.{Bool, true, false, not}
 use mathlib.Core.Logic.{_⊎_, inl, inr, _≢_}

@@ -20,6 +20,7 @@ use Rattle.definitions.specs.History.{Event, sent, got, here, there, same, carr
 use Rattle.definitions.specs.Words.{making-refusal, settled-words, on-words, started-words}
 use Rattle.definitions.specs.Demand.{Agreed as AgreedWords}
 use Rattle.base.specs.Tests.{clash, at-or-off}
+use Rattle.world.specs.Items.{multicasting, arriving, three, until-overtaken}
 use Rattle.world.specs.Runs.{on-states, started}
 use Rattle.keeps.specs.Keeps.{fresh-sound}
 use Rattle.agreement.specs.Agreement.{Agreed}
@@ -28,33 +29,7 @@ use Rattle.demand.specs.States.{settled, demand-3-states}
 use Rattle.demand.specs.Words.{rule-written}
 use Rattle.demand.specs.Theorem.{demand-3}
 
--- ---- steps as items
-abbrev multicasting : ℕ → ℕ → Item
-multicasting p groups = given (1 ∷ p ∷ groups ∷ 0 ∷ 0 ∷ 0 ∷ 0 ∷ 0 ∷ [])
-
--- an arrival
-abbrev arriving : ℕ → ℕ → ℕ → ℕ → Item
-arriving k m q p = given (2 ∷ k ∷ m ∷ q ∷ p ∷ 0 ∷ 0 ∷ 0 ∷ [])
-
--- ---- the third known run: processes 0, 1, 2 in groups 0, 1, 2; 0 multicasts message 0 to group 2 and 1 to
--- group 1; 1
--- delivers it and multicasts 2 to group 2
-abbrev three : List ℕ
-three = 0 ∷ 3 ∷ 136 ∷ 0 ∷ 0 ∷ 0 ∷ 0 ∷ 0 ∷ []
-
--- until message 2's letters have arrived
-abbrev until-overtaken : List Item
-until-overtaken =
-    multicasting 0 4
-    ∷ multicasting 0 2
-    ∷ arriving 0 1 0 1
-    ∷ arriving 2 1 1 1
-    ∷ multicasting 1 4
-    ∷ arriving 0 2 1 2
-    ∷ arriving 2 2 2 2
-    ∷ []
-
--- what it has seen
+-- ---- the third known run, until message 2's letters have arrived: what it has seen
 abbrev seen-so-far : List Event
 seen-so-far = sent 1 2 ∷ got 1 1 ∷ sent 0 1 ∷ sent 0 0 ∷ []
 

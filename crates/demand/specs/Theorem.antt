@@ -8,11 +8,9 @@ use mathlib.Core.Bool.{true, false}
 use mathlib.Core.List.{List}
 use Prim.Native.Nat.{ℕ, _≤_, _<_}
 use native.Mathlib.Omega.{arith}
-use lib.Dec.{eqb}
 use lib.ListN.{length, getD}
-use borrow.Author.Tests.{ltb-true}
 use Rattle.definitions.specs.General.{in-at, gives}
-use Rattle.definitions.specs.World.{size, count, up, causal-length, fifo, causal, sender, State, encode, view, addressed}
+use Rattle.definitions.specs.World.{size, count, up, causal-length, causal, sender, State, encode, view, addressed}
 use Rattle.definitions.specs.Setup.{setup-refusal}
 use Rattle.definitions.specs.Settle.{Ending, done, stopped}
 use Rattle.definitions.specs.History.{Before, casts, Run, Item, run}
@@ -20,7 +18,7 @@ use Rattle.definitions.specs.Words.{settle-reply, log-words, on-words}
 use Rattle.definitions.specs.Demand.{CausalOrder, Agreed, AtMost, done-within, stopped-within, SaysDone, says-done, Demand3, Demand3Always}
 use Rattle.base.specs.Tabulate.{length-tabulate, getD-tabulate}
 use Rattle.world.specs.Layout.{get-encode}
-use Rattle.world.specs.SoundLaws.{Sound, size-high, count-high, sender-low, fifo-addressed}
+use Rattle.world.specs.SoundLaws.{Sound, size-high, count-high, sender-low, fifo-exists}
 use Rattle.world.specs.Runs.{on-states, started}
 use Rattle.keeps.specs.Keeps.{fresh-sound, reached-sound}
 use Rattle.order.specs.Precedence.{cast-low}
@@ -88,7 +86,7 @@ module _ (s : State) (h : Sound s) (a : AgreedStates s) where
 
   -- what is in a log is a message
   logged : (p m : ℕ) → p < s size → Fifo s p m → m < s count
-  logged p m hp (in-at i l e) = rw e at (ltb-true (s (fifo p i)) (s count) (fifo-addressed s h p i hp l .of))
+  logged p m hp (in-at i l e) = rw e at (fifo-exists s h p i hp l)
 
   -- who is up on the words is up
   up-read : (q : ℕ) → q < s size → view (encode s) (up q) ≡ 1 → s (up q) ≡ 1

@@ -12,7 +12,6 @@ use lib.Pow.{pow-pos, pow-mono}
 use native.Mathlib.Omega.{arith}
 use lib.Dec.{ltb, eqb}
 use lib.ListN.{length, getD}
-use borrow.Author.Tests.{ltb-true}
 use Rattle.definitions.specs.General.{with, mask-of, bit, absent, In, in-at, pick}
 use Rattle.base.specs.Bits.{mask-of-cong}
 use Rattle.base.specs.Count.{absent-cong, in-dec, out-absent, absent-out, room-left}
@@ -22,7 +21,7 @@ use Rattle.bounds.specs.Bounds.{Bounds}
 use Rattle.definitions.specs.World.{Cell, size, count, group, fifo-length, causal-length, fifo, causal, sender, mask, State, encode, view, addressed, outside-fifo, outside-causal}
 use Rattle.world.specs.Layout.{Within, get-encode}
 use Rattle.definitions.specs.Machine.{addressees}
-use Rattle.world.specs.SoundLaws.{Sound, fifo-once, fifo-addressed, causal-in-fifo, causal-once}
+use Rattle.world.specs.SoundLaws.{Sound, fifo-once, fifo-exists, causal-in-fifo, causal-once}
 
 -- The words that it looks at.
 pub record Frame : Type 0 where
@@ -135,7 +134,7 @@ Logs s p = LogsOf (frame s) p
 pub sound-logs : (s : State) (p : ℕ) → Sound s → p < s size → Logs s p
 sound-logs s p h l = record {
   once = λ i j a b. fifo-once s h p i j l a b;
-  exist = λ i a. ltb-true (s (fifo p i)) (s count) (fifo-addressed s h p i l a .of);
+  exist = λ i a. fifo-exists s h p i l a;
   inside = λ m e. out-absent (λ o. elim o [
     | in-at i k d ↦ absent-out (s (fifo-length p)) m (λ j. s (fifo p j)) e
         (subst (λ (y : ℕ). In (s (fifo-length p)) (λ j. s (fifo p j)) y) d (causal-in-fifo s h p i l k))

@@ -17,7 +17,7 @@ use Rattle.base.specs.Tests.{clash, both, both-l, both-r, both-i}
 use Rattle.base.specs.Count.{absent-out, room-left}
 use Rattle.base.specs.Loop.{loop-keeps}
 use Rattle.world.specs.Layout.{Within, put-at}
-use Rattle.world.specs.SoundLaws.{Sound, size-high, count-high, sender-low, fifo-addressed, fifo-once, Addressed, held-facts, letter-facts}
+use Rattle.world.specs.SoundLaws.{Sound, size-high, count-high, sender-low, fifo-exists, fifo-once, Addressed, held-facts, letter-facts}
 use Rattle.world.specs.Kept.{marked-keeps, received-keeps}
 use Rattle.keeps.specs.Forms.{word-to}
 use Rattle.keeps.specs.Logs.{Longer, put-longer, longer-item, longer-bound, longer-length, longer-listed, longer-tally, item-weaker}
@@ -61,7 +61,7 @@ module _ (s : State) (p m : ℕ) (h : Sound s) (hp : p < s size) (a : Addressed 
   room =
       room-left (s count) (s (fifo-length p)) (λ i. i) (λ i. s (fifo p i))
       (λ i j l k. fifo-once s h p i j hp l k)
-      (λ j l. in-at (s (fifo p j)) (ltb-true (s (fifo p j)) (s count) (fifo-addressed s h p j hp l .of)) refl)
+      (λ j l. in-at (s (fifo p j)) (fifo-exists s h p j hp l) refl)
       m m-low
       (absent-out (s (fifo-length p)) m (λ i. s (fifo p i)) new)
 

@@ -6,7 +6,7 @@ use mathlib.Core.Bool.{Bool, true, false, not, _&&_}
 use Prim.Native.Nat.{ℕ, _+_, _<_, max, _-_}
 use native.Mathlib.Omega.{arith}
 use lib.Dec.{leb, eqb}
-use borrow.Author.Tests.{ltb-true, lt-ltb, le-leb, eqb-true}
+use borrow.Author.Tests.{lt-ltb, le-leb, eqb-true}
 use Rattle.definitions.specs.General.{pick, in-at}
 use Rattle.definitions.specs.World.{Cell, size, count, rule, group, trust, counter, sequence, next, delivered, up, fifo-length, causal-length, held, marks, fifo, causal, sender, mask, stamp, number, flight, order, unused, State, put, is-process, has-group, outside-fifo, outside-causal}
 use Rattle.definitions.specs.Sound.{sends, word, logged-of, fit, fine}
@@ -15,7 +15,7 @@ use Rattle.base.specs.Tests.{clash, both-l, both-i}
 use Rattle.base.specs.Count.{absent-out, in-absent, room-left}
 use Rattle.base.specs.Loop.{loop-keeps}
 use Rattle.world.specs.Layout.{put-at}
-use Rattle.world.specs.SoundLaws.{Sound, word-is, size-high, count-high, group-high, sender-low, stamp-high, fifo-addressed, causal-in-fifo, causal-once}
+use Rattle.world.specs.SoundLaws.{Sound, word-is, size-high, count-high, group-high, sender-low, stamp-high, fifo-exists, causal-in-fifo, causal-once}
 use Rattle.keeps.specs.Forms.{word-max}
 use Rattle.keeps.specs.Logs.{Longer, put-longer, longer-item, longer-bound}
 use Rattle.keeps.specs.Changes.{SoundAt}
@@ -45,7 +45,7 @@ module _ (s : State) (p i : ℕ) (h : Sound s) (hp : p < s size) (hi : i < s (fi
   -- p, m and its sender are in the world
   bounds : (p < 16) × (m < s count) × (m < 64) × (q < s size) × (q < 16)
   bounds =
-      let hm : m < s count = ltb-true m (s count) (fifo-addressed s h p i hp hi .of) in
+      let hm : m < s count = fifo-exists s h p i hp hi in
       let hq = sender-low s h m hm in
       omega (arith, size-high s h, count-high s h)
 

@@ -19,7 +19,7 @@ use Rattle.base.specs.Tests.{clash, both, both-l, both-r, both-i}
 use Rattle.base.specs.Count.{tally-cong}
 use Rattle.base.specs.Bits.{only-e, only-i}
 use Rattle.world.specs.Layout.{Within, put-same, put-other}
-use Rattle.world.specs.SoundLaws.{Sound, word-out, word-is, size-high, fifo-addressed}
+use Rattle.world.specs.SoundLaws.{Sound, word-out, word-is, size-high, fifo-exists}
 use Rattle.keeps.specs.Forms.{word-to, word-zero, word-wider, word-raised, only-empty, bit-below}
 use Rattle.keeps.specs.Logs.{item-weaker}
 use Rattle.keeps.specs.Changes.{send-sound}
@@ -191,8 +191,7 @@ module _ (s : State) (p groups o : ℕ) (h : Sound s) (hp : p < s size) (good : 
       logged : (x i : ℕ) → both (is-process s x) (is-process s y) ≡ true → i < s (fifo-length x)
           → s (fifo x i) < new
       logged x i u l =
-          ltb-true (s (fifo x i)) new
-          (fifo-addressed s h x i (ltb-true x (s size) (both-l (is-process s x) (is-process s y) u)) l .of)
+          fifo-exists s h x i (ltb-true x (s size) (both-l (is-process s x) (is-process s y) u)) l
 
   -- ---- the message but for its letters: what each cell's test asks
   sent-sound : Sound sent

@@ -80,52 +80,11 @@ module _ {n : ℕ} {w : Messages} {k : Knowledge} (c : Counting n w k) where
   pub sender-before : (m x : ℕ) → m < w .total → x ≤ m → w .sender x ≡ w .sender m → k .before m x ≡ true
   sender-before m x h l e = c .closed .before m .prefix m x (c .closed .before-self m h) l e
 
-  -- so a sender's numbers rise
-  pub stamp-lt : (m x g : ℕ) → m < w .total → x < m → w .sender x ≡ w .sender m → To w g m
-      → w .stamp x g (w .sender m) < w .stamp m g (w .sender m)
-  stamp-lt m x g h l e t =
-      let b = sender-before m x h (omega arith) e in
-      let z =
-      tally-falls (w .total) (λ y. both (k .before m y) (of-to w q g y))
-      (λ y. both (k .before x y) (of-to w q g y))
-      (part-of m x g q b) m h
-      (both-i (k .before m m) (of-to w q g m) (c .closed .before-self m h)
-      (both-i (eqb q q) (bit (w .mask m) g) (eqb-refl q) t))
-      (above (bool-cases (both (k .before x m) (of-to w q g m)))) in
-      omega (arith, c .stamps m g q h, c .stamps x g q (omega arith))
-    where
-      q : ℕ
-      q = w .sender m
-
-      above : (both (k .before x m) (of-to w (w .sender m) g m) ≡ true)
-          ⊎ (both (k .before x m) (of-to w (w .sender m) g m) ≡ false)
-          → both (k .before x m) (of-to w (w .sender m) g m) ≡ false
-      above (inr z) = z
-      above (inl z) =
-          absurd
-          (omega (arith, c .closed .before x .low m (both-l (k .before x m) (of-to w (w .sender m) g m) z)))
-
-  -- a message's counters count some of all
-  pub stamp-most : (m g q : ℕ) → m < w .total → w .stamp m g q ≤ all-of w q g
-  stamp-most m g q h =
-      let l = tally-mono (w .total) (of-to w q g) (λ y. both (k .before m y) (of-to w q g y))
-      (λ y _ e. both-r (k .before m y) (of-to w q g y) e) in
-      omega (arith, c .stamps m g q h)
-
-  -- all of a process's own messages are in its past
-  pub own-all : (p g : ℕ) → counted w (k .past p) p g ≡ all-of w p g
-  own-all p g =
-      tally-cong (w .total) (λ x. both (k .past p x) (of-to w p g x)) (of-to w p g)
-      (λ x h. both-less (k .past p x) (of-to w p g x)
-      (λ e. rw (of w p g x e) at (c .closed .past-own x h)))
-
--- ---- one counter tells what is before m: of q's messages to g those before m are a prefix, so x of q to g is among them
--- where its own count is at most that of m
-module _ {n : ℕ} {w : Messages} {k : Knowledge} (c : Counting n w k) (x m g : ℕ) (hx : x < w .total)
-    (hm : m < w .total) (t : To w g x) where
-  -- if x is not before m, what is before m of its sender is before x, and x is one more
-  fewer : k .before m x ≡ false → w .stamp m g (w .sender x) < w .stamp x g (w .sender x)
-  fewer out =
+  -- of the messages of x's sender to g those before m are a prefix: if x, one of them, is not before m, what is before m
+  -- is before x, and x is one more
+  fewer : (x m g : ℕ) → x < w .total → m < w .total → To w g x → k .before m x ≡ false
+      → w .stamp m g (w .sender x) < w .stamp x g (w .sender x)
+  fewer x m g hx hm t out =
       let l = tally-falls (w .total) (λ y. both (k .before x y) (of-to w (w .sender x) g y))
       (λ y. both (k .before m y) (of-to w (w .sender x) g y)) part x hx
       (both-i (k .before x x) (of-to w (w .sender x) g x) (c .closed .before-self x hx)
@@ -141,15 +100,39 @@ module _ {n : ℕ} {w : Messages} {k : Knowledge} (c : Counting n w k) (x m g : 
           let d = of w (w .sender x) g y o in
           elim (le-or-lt x y) [
             | inl l ↦ clash (c .closed .before m .prefix y x b l (sym d)) out
-            | inr l ↦ both-i (k .before x y) (of-to w (w .sender x) g y)
-                (sender-before c x y hx (omega arith) d) o
+            | inr l ↦ both-i (k .before x y) (of-to w (w .sender x) g y) (sender-before x y hx (omega arith) d) o
           ]
 
-  pub counter-before : w .stamp x g (w .sender x) ≤ w .stamp m g (w .sender x) → k .before m x ≡ true
-  counter-before l = elim (bool-cases (k .before m x)) [
+  -- so one counter tells whether x is before m: its own count is at most that of m
+  pub counter-before : (x m g : ℕ) → x < w .total → m < w .total → To w g x
+      → w .stamp x g (w .sender x) ≤ w .stamp m g (w .sender x) → k .before m x ≡ true
+  counter-before x m g hx hm t l = elim (bool-cases (k .before m x)) [
     | inl e ↦ e
-    | inr e ↦ absurd (omega (arith, fewer e))
+    | inr e ↦ absurd (omega (arith, fewer x m g hx hm t e))
   ]
+
+  -- and a lower message counts fewer of m's sender than m does: it is not before it
+  pub stamp-lt : (m x g : ℕ) → m < w .total → x < m → To w g m
+      → w .stamp x g (w .sender m) < w .stamp m g (w .sender m)
+  stamp-lt m x g h l t = fewer m x g h (omega arith) t (later (bool-cases (k .before x m)))
+    where
+      later : (k .before x m ≡ true) ⊎ (k .before x m ≡ false) → k .before x m ≡ false
+      later (inr e) = e
+      later (inl e) = absurd (omega (arith, c .closed .before x .low m e))
+
+  -- a message's counters count some of all
+  pub stamp-most : (m g q : ℕ) → m < w .total → w .stamp m g q ≤ all-of w q g
+  stamp-most m g q h =
+      let l = tally-mono (w .total) (of-to w q g) (λ y. both (k .before m y) (of-to w q g y))
+      (λ y _ e. both-r (k .before m y) (of-to w q g y) e) in
+      omega (arith, c .stamps m g q h)
+
+  -- all of a process's own messages are in its past
+  pub own-all : (p g : ℕ) → counted w (k .past p) p g ≡ all-of w p g
+  own-all p g =
+      tally-cong (w .total) (λ x. both (k .past p x) (of-to w p g x)) (of-to w p g)
+      (λ x h. both-less (k .past p x) (of-to w p g x)
+      (λ e. rw (of w p g x e) at (c .closed .past-own x h)))
 
 -- ---- a delivery
 union : (a b d : Bool) → both (either b a) d ≡ either (both a d) (both b d)

@@ -116,7 +116,7 @@ module _ {s : ℕ} {e : ℕ} {w : Messages} {k : Knowledge} {g n : ℕ} {log bou
           let z : e + rank w g x ≤ e + rank w g m =
           rw (at-here bound (w .sender m) (e + rank w g m)) at
           (subst (λ (y : ℕ). e + rank w g x ≤ at-place bound (w .sender m) (e + rank w g m) y) (sym d) l) in
-          let up = stamp-lt c x m g h (omega arith) d t in
+          let up = stamp-lt c x m g h (omega arith) t in
           absurd (omega (arith, ap (λ (q : ℕ). w .stamp m g q) d))
 
 -- a multicast: the new message is above every bound
@@ -173,7 +173,7 @@ module _ {s : ℕ} {w : Messages} {k : Knowledge} {g n : ℕ} {log next : ℕ �
   earlier : (x : ℕ) → x < m → w .sender x ≡ w .sender m → To w g x → In n log x
   earlier x l e t =
       o .prefix .below-in x (omega arith) t
-      (omega (arith, stamp-lt c m x g hm l e tm, at-next, ap next e, ap (w .stamp x g) e))
+      (omega (arith, stamp-lt c m x g hm l tm, at-next, ap next e, ap (w .stamp x g) e))
 
   -- the log with m is a FIFO log again
   pub fifo-log-more : FifoLog w g (n + 1) (at-place log n m)

@@ -1,5 +1,5 @@
--- The answer of the deliverable test: what its two searches find; that "deliverable", which is that the answer is yes, is
--- document 01's test of every process; and what it reads of a state. Assumes nothing.
+-- The answer of the deliverable test: what its two searches find; and that "deliverable", which is that the answer is yes,
+-- is document 01's test of every process. Assumes nothing.
 use mathlib.Core.Path.{_≡_, refl, sym, _∙_}
 use mathlib.Core.Bool.{Bool, true, false, not, _&&_}
 use mathlib.Core.Logic.{_≢_}

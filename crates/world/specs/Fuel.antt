@@ -8,7 +8,6 @@ use mathlib.Core.Logic.{_≢_}
 use Prim.Native.Nat.{ℕ, _+_, _-_, _<_}
 use native.Mathlib.Omega.{arith}
 use lib.Dec.{eqb}
-use borrow.Author.Tests.{ltb-true}
 use Rattle.definitions.specs.General.{In, in-at, tally, absent}
 use Rattle.definitions.specs.World.{size, count, fifo-length, causal-length, held, fifo, causal, sender, State, put, outside-fifo, outside-causal}
 use Rattle.definitions.specs.Machine.{with-tables, in-turn, ready, deliverable, deliverable-at, merge, causal-one, causal-all, appended, raised-next, fifo-one, cascade}
@@ -16,7 +15,7 @@ use Rattle.base.specs.Tests.{both, both-l, both-r}
 use Rattle.base.specs.Count.{tally-falls, absent-out, in-absent, out-absent, absent-room, room-outside}
 use Rattle.base.specs.Loop.{loop-ends}
 use Rattle.world.specs.Layout.{put-same, put-other}
-use Rattle.world.specs.SoundLaws.{Sound, fifo-addressed, fifo-once}
+use Rattle.world.specs.SoundLaws.{Sound, fifo-exists, fifo-once}
 use Rattle.world.specs.Kept.{causal-all-keeps, oks-keep}
 
 ready-outside : (a b c d : Bool) → both (both (both a b) c) d ≡ true → b ≡ true
@@ -176,5 +175,5 @@ module _ (p : ℕ) where
   pub cascade-ends : (s : State) → Sound s → p < s size → (m : ℕ) → m < cascade s p count
       → ready (cascade s p) p m ≡ false
   cascade-ends s h hp =
-      cascade-quiet s (λ i l. ltb-true (s (fifo p i)) (s count) (fifo-addressed s h p i hp l .of))
+      cascade-quiet s (λ i l. fifo-exists s h p i hp l)
       (λ i j l k. fifo-once s h p i j hp l k)

@@ -9,3 +9,4 @@ pub mod Kept
 pub mod Local
 pub mod Fuel
 pub mod Awaited
+pub mod Items

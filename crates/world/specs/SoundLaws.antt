@@ -280,6 +280,10 @@ module _ (s : State) (h : Sound s) where
         to = both-r (is-message s (s (fifo p i))) (addressee s (s (fifo p i)) p) a;
       }
 
+  -- what is in it is a message
+  pub fifo-exists : (p i : ℕ) → p < s size → i < s (fifo-length p) → s (fifo p i) < s count
+  fifo-exists p i hp hi = ltb-true (s (fifo p i)) (s count) (fifo-addressed p i hp hi .of)
+
   pub fifo-once : (p i j : ℕ) → p < s size → i < j → j < s (fifo-length p) → s (fifo p i) ≢ s (fifo p j)
   fifo-once p i j hp hi hj e =
       absent-out j (s (fifo p j)) (λ x. s (fifo p x))
