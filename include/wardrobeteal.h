@@ -44,8 +44,8 @@
 #include <stdint.h>
 
 /* The version of this header, as text and as the number that wt_version gives. */
-#define WT_VERSION "9.4.0"
-#define WT_VERSION_NUMBER 9004000
+#define WT_VERSION "9.5.0"
+#define WT_VERSION_NUMBER 9005000
 
 #ifdef __cplusplus
 extern "C" {
@@ -63,7 +63,8 @@ enum {
     WT_JOURNAL_BLOCKS = 128,   /* the most blocks of a journal */
     WT_JOURNAL_BYTES = 65536,  /* the most bytes of a journal */
     WT_JOURNAL_RECORDS = 8064, /* the most records of a journal, its setup included */
-    WT_SETTLE_ALL = 33792      /* a settle with this budget says done, in a world that steps reached */
+    WT_SETTLE_ALL = 33792,     /* a settle with this budget says done, in a world that steps reached */
+    WT_PAIRS = 256             /* the most pairs of messages that wt_precedes takes, two words each */
 };
 
 /* The first byte of a step. */
@@ -180,6 +181,23 @@ uint32_t wt_awaited(const uint16_t *world, size_t world_length, uint32_t process
                     uint32_t *of, uint32_t *awaited);
 
 /*
+ * Says which came first, for many pairs of messages: whether the first of a pair precedes the second.
+ *   pairs, pairs_length       the pairs, two words each, the first message and the second; at most WT_PAIRS pairs, and
+ *                             there may be none
+ *   answers, answers_length   where a byte is put for each pair, 1 if its first message precedes its second, else 0: as
+ *                             many bytes as there are pairs
+ *   different                 where is put how many different messages the pairs name
+ * Returns 0, or refusal 1, 2, 19, 7, the first of these that applies. Changes the bytes of answers and *different.
+ *
+ * In a world that steps reached the byte is 1 exactly when the multicast of the first could have led to that of the
+ * second; a message never precedes itself. One counter tells it: of the messages of the first's sender to the lowest
+ * group of the first, the second counts at least as many as the first. In words that were edited or damaged and are
+ * still sound the byte is what this counter says, and two different messages may each precede the other.
+ */
+uint32_t wt_precedes(const uint16_t *world, size_t world_length, const uint16_t *pairs, size_t pairs_length,
+                     uint8_t *answers, size_t answers_length, uint32_t *different);
+
+/*
  * Replays a journal, over whatever the words hold: makes the world from its first record, takes all others as steps.
  * The arrivals of a wt_settle are not in a journal, unless they were taken as steps (see there).
  *   journal, journal_length   the bytes of the journal
@@ -253,7 +271,9 @@ enum {
     WT_REFUSAL_RECORDS_LENGTH = 16, /* records length 0, no multiple of 8, over 8,064 records */
     WT_REFUSAL_OUTPUT_LENGTH = 17,  /* output length not what is needed */
     /* The state of the mill, when asked what is awaited. */
-    WT_REFUSAL_NOT_WAITING = 18 /* message that isn't in that process's FIFO log or is already in its causal log */
+    WT_REFUSAL_NOT_WAITING = 18, /* message that isn't in that process's FIFO log or is already in its causal log */
+    /* Whoever lends storage, when asked which came first. */
+    WT_REFUSAL_PAIRS_LENGTH = 19 /* odd or over-long pair slice or an answer slice of another length than the number of pairs */
 };
 
 /* The refusal's words: who causes it, and how, for whoever looks it up. "no refusal" for any other number. */
@@ -283,6 +303,9 @@ static inline const char *wt_refusal_text(uint32_t number) {
     case WT_REFUSAL_OUTPUT_LENGTH: return "whoever writes one: output length not what is needed";
     case WT_REFUSAL_NOT_WAITING:
         return "the state of the mill: message that isn't in that process's FIFO log or is already in its causal log";
+    case WT_REFUSAL_PAIRS_LENGTH:
+        return "whoever lends storage: odd or over-long pair slice or an answer slice of another length than the number "
+               "of pairs";
     default: return "no refusal";
     }
 }
@@ -311,6 +334,8 @@ static inline const char *wt_refusal_sentence(uint32_t number) {
     case WT_REFUSAL_OUTPUT_LENGTH: return "what was lent for the output is not just as long as the output";
     case WT_REFUSAL_NOT_WAITING:
         return "that message does not wait at that process: its FIFO log lacks it, or its causal log has it already";
+    case WT_REFUSAL_PAIRS_LENGTH:
+        return "pairs are two words each, at most 256 pairs, with one answer byte for each, and these are not";
     default: return "nothing was refused";
     }
 }

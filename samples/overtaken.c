@@ -4,7 +4,7 @@
  * slow, and the call comes before the recipe: the mixer has the call, but does not act on it before the recipe, which
  * causally precedes it. The recipe and the batch are for one sales order, whose number they carry; the release is for
  * none. Before the last letter of the call and that of the recipe arrive, previews show what each would do; in between
- * the engine says whose message the call awaits.
+ * the engine says whose message the call awaits, and which of the two came first.
  *
  * cc -Idist samples/overtaken.c dist/libengine.a -o overtaken && ./overtaken
  */
@@ -127,6 +127,18 @@ static void print_awaited(uint32_t machine, uint32_t message) {
     }
 }
 
+/* Which came first, the recipe or the call. */
+static void print_precedes(void) {
+    const uint16_t pairs[] = {0, 2, 2, 0};
+    uint8_t answers[2];
+    uint32_t i, different = 0;
+    check(wt_precedes(world, WT_WORLD_WORDS, pairs, 4, answers, 2, &different));
+    for (i = 0; i < 2; i++) {
+        printf("message %u %s message %u\n", (unsigned)pairs[2 * i],
+               answers[i] == 1 ? "precedes" : "does not precede", (unsigned)pairs[2 * i + 1]);
+    }
+}
+
 static void print_logs(void) {
     uint32_t machine;
     for (machine = 0; machine < MACHINES; machine++) print_logs_of(world, machine);
@@ -155,6 +167,7 @@ int main(void) {
     arrive(WT_LETTER_OK, 2, MIXER, MIXER);
     print_letters();
     print_awaited(MIXER, 2);
+    print_precedes();
     print_logs();
     arrive(WT_LETTER_FIRST, 0, OFFICE, MIXER);
     preview(WT_LETTER_OK, 0, MIXER, MIXER);

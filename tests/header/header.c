@@ -1,7 +1,7 @@
 /*
  * Prints what the header states beside its declarations: sizes, the refusals' words, records written by its
- * functions, and what its functions read from a world; what two previews show, and whose message is awaited. The
- * wrapper's tests hold the wrapper to the same lines.
+ * functions, and what its functions read from a world; what two previews show, whose message is awaited, and which
+ * came first. The wrapper's tests hold the wrapper to the same lines.
  */
 #include <stdio.h>
 #include <string.h>
@@ -36,11 +36,12 @@ static void print_sizes(void) {
                                ? "as many as the bytes and the records"
                                : "wrong");
     printf("a whole settle: %d arrivals\n", (int)WT_SETTLE_ALL);
+    printf("at once: %d pairs\n", (int)WT_PAIRS);
 }
 
 static void print_refusals(void) {
     uint32_t number;
-    for (number = 1; number <= WT_REFUSAL_NOT_WAITING; number++) {
+    for (number = 1; number <= WT_REFUSAL_PAIRS_LENGTH; number++) {
         printf("refusal %u: %s\n", (unsigned)number, wt_refusal_sentence(number));
         printf("caused by %s\n", wt_refusal_text(number));
     }
@@ -169,7 +170,30 @@ static void print_awaited(const char *what, size_t place, uint16_t word) {
     world[place] = kept;
 }
 
-/* A message that waits; then edited words, in which nothing is awaited, or a process alone. */
+/* Which of the three messages came first, with a word of the world edited. */
+static void print_precedes(const char *what, size_t place, uint16_t word) {
+    const uint16_t pairs[] = {0, 1, 0, 2, 1, 2, 1, 0, 2, 0, 2, 1, 0, 0};
+    uint8_t answers[7];
+    uint32_t different = 7;
+    size_t i;
+    uint16_t kept = world[place];
+    world[place] = word;
+    printf("precedes, %s:", what);
+    if (wt_precedes(world, WT_WORLD_WORDS, pairs, 2 * sizeof answers, answers, sizeof answers, &different) != 0) {
+        printf(" refused\n");
+    } else {
+        for (i = 0; i < sizeof answers; i++) {
+            printf(" %u %u %s,", (unsigned)pairs[2 * i], (unsigned)pairs[2 * i + 1], answers[i] == 1 ? "yes" : "no");
+        }
+        printf(" %u different\n", (unsigned)different);
+    }
+    world[place] = kept;
+}
+
+/*
+ * A message that waits; then edited words, in which nothing is awaited, or a process alone. And which came first in these
+ * worlds.
+ */
 static void print_waiting(void) {
     const uint8_t groups[] = {0, 1, 2};
     const size_t del = WT_PLACE_PROCESSES + 2 * WT_PROCESS_BLOCK + 154;
@@ -188,6 +212,8 @@ static void print_waiting(void) {
     print_awaited("as it is", 0, 3);
     print_awaited("del[0] 1", del, 1);
     print_awaited("C[2][0] of message 0 2", counter, 2);
+    print_precedes("as it is", 0, 3);
+    print_precedes("C[2][0] of message 0 2", counter, 2);
 }
 
 int main(void) {

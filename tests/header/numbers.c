@@ -1,7 +1,8 @@
 /*
  * Numbers that have no place in a record. The functions that write records refuse them and leave no step: whoever
  * takes the record all the same is refused, and the world stays as it was, though a step stood in the record before.
- * And order numbers, previews and awaited messages that are asked for and refused: what was lent stays as it was.
+ * And order numbers, previews, awaited messages and what came first, asked for and refused: what was lent stays as it
+ * was.
  */
 #include <stdio.h>
 #include <string.h>
@@ -124,6 +125,45 @@ static void print_awaiteds(void) {
     print_awaited("in no world", WT_WORLD_WORDS, 2, 1);
 }
 
+/* What asking about pairs answered, with so many words of the world and the pairs and so many bytes lent. */
+static void print_precedes(const char *what, size_t words, const uint16_t *pairs, size_t pair_words, size_t bytes) {
+    uint8_t answers[2 * WT_PAIRS];
+    uint32_t different = 7, answer, zeros = 0, ones = 0, kept = 0, i;
+    memset(answers, 0x5A, sizeof answers);
+    memcpy(before, world, sizeof world);
+    answer = wt_precedes(world, words, pairs, pair_words, answers, bytes, &different);
+    for (i = 0; i < sizeof answers; i++) {
+        zeros += answers[i] == 0;
+        ones += answers[i] == 1;
+        kept += answers[i] == 0x5A;
+    }
+    printf("pairs, %s: refusal %u, number %u, bytes 0: %u, 1: %u, as they were: %u, world %s\n", what, (unsigned)answer,
+           (unsigned)different, (unsigned)zeros, (unsigned)ones, (unsigned)kept, state(before, world, sizeof world));
+}
+
+/* Message 0 precedes message 1, and there are no others; then pairs are asked about, rightly and not. */
+static void print_pairs(void) {
+    uint16_t pairs[2 * WT_PAIRS + 2] = {0, 1, 1, 0, 0, 0};
+    world[WT_PLACE_COUNT] = 2;
+    world[WT_PLACE_MESSAGES + 2 + WT_PROCESSES] = 1;
+    print_precedes("three", WT_WORLD_WORDS, pairs, 6, 3);
+    print_precedes("256", WT_WORLD_WORDS, pairs, 512, 256);
+    print_precedes("none", WT_WORLD_WORDS, pairs, 0, 0);
+    print_precedes("three, a word of the world too few", WT_WORLD_WORDS - 1, pairs, 6, 3);
+    print_precedes("an odd length", WT_WORLD_WORDS, pairs, 5, 2);
+    print_precedes("257", WT_WORLD_WORDS, pairs, 514, 257);
+    print_precedes("three, a byte too few", WT_WORLD_WORDS, pairs, 6, 2);
+    print_precedes("three, a byte too many", WT_WORLD_WORDS, pairs, 6, 4);
+    print_precedes("none, a byte too many", WT_WORLD_WORDS, pairs, 0, 1);
+    pairs[5] = 2;
+    print_precedes("three, the last word 2", WT_WORLD_WORDS, pairs, 6, 3);
+    print_precedes("three, the last word 2, a byte too few", WT_WORLD_WORDS, pairs, 6, 2);
+    pairs[5] = 65535;
+    print_precedes("three, the last word 65535", WT_WORLD_WORDS, pairs, 6, 3);
+    world[WT_PLACE_COUNT] = WT_MESSAGES + 1;
+    print_precedes("an odd length in no world", WT_WORLD_WORDS, pairs, 5, 2);
+}
+
 static void print_setup(const char *what, const uint8_t *groups, size_t processes) {
     uint32_t put = wt_put_setup(used(), groups, processes);
     printf("%s: refusal %u, made all the same: refusal %u\n", what, (unsigned)put,
@@ -162,6 +202,7 @@ int main(void) {
     print_previews();
     print_orders();
     print_awaiteds();
+    print_pairs();
     print_setup("setup 0 8", wrong, 2);
     print_setup("setup of 17", seventeen, 17);
     print_setup("setup of none", groups, 0);

@@ -8,7 +8,7 @@ use borrow.Author.Tests.{eq-eqb, ne-eqb}
 use Rattle.definitions.specs.General.{pick, or-else}
 use Rattle.definitions.specs.Answers.{refusal-number, outcome-number}
 use Rattle.definitions.specs.declared.Refusal.{Refusal}
-use Rattle.definitions.specs.declared.Refusal.the-variants.{WorldLength, WorldUnsound, BadSetup, Malformed, NoProcess, BadMask, NoMessage, BadTrust, Down, Full, NotInFlight, BothUp, JournalLength, WrongCheck, WrongForm, RecordsLength, OutputLength, NotWaiting}
+use Rattle.definitions.specs.declared.Refusal.the-variants.{WorldLength, WorldUnsound, BadSetup, Malformed, NoProcess, BadMask, NoMessage, BadTrust, Down, Full, NotInFlight, BothUp, JournalLength, WrongCheck, WrongForm, RecordsLength, OutputLength, NotWaiting, PairsLength}
 use Rattle.definitions.specs.declared.Outcome.{Outcome}
 use Rattle.definitions.specs.declared.Outcome.the-variants.{Taken, Refused}
 
@@ -32,6 +32,7 @@ refusal-some WrongForm e = omega arith
 refusal-some RecordsLength e = omega arith
 refusal-some OutputLength e = omega arith
 refusal-some NotWaiting e = omega arith
+refusal-some PairsLength e = omega arith
 
 -- ---- the number of an outcome, by its case
 pub taken-zero : {o : Outcome} {n : ℕ} → o ≡ Taken → outcome-number o ≡ n → n ≡ 0

@@ -27,6 +27,7 @@ pub fn number(r: Refusal) -> u32
         Refusal::RecordsLength => 16,
         Refusal::OutputLength => 17,
         Refusal::NotWaiting => 18,
+        Refusal::PairsLength => 19,
     }
 }
 
@@ -44,5 +45,5 @@ pub fn outcome(x: Outcome) -> u32
 pub fn of_version() -> u32
     ensures { λ n. ⌜ n ≡ version ⌝ }
 {
-    9004000
+    9005000
 }

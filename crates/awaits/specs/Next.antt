@@ -17,7 +17,7 @@ use Rattle.base.specs.Count.{tally-past, tally-cong, Nth, nth, nth-of}
 use Rattle.world.specs.Awaited.{Short, short-facts, short-is, lowest-short-law, Next, next-facts, next-is, lowest-awaited-law}
 use Rattle.effects.specs.Views.{Messages, messages, process}
 use Rattle.order.specs.Knowledge.{Knowledge, knowledge}
-use Rattle.order.specs.Precedence.{precedes-before, before-precedes}
+use Rattle.order.specs.Precedence.{before-precedes}
 use Rattle.order.specs.Counters.{of-to, of, to, Counting, sender-before, stamp-lt, counter-before}
 use Rattle.order.specs.Logs.{waits, Stuck}
 use Rattle.order.specs.Cascade.{Fifo, Causal}
@@ -176,12 +176,6 @@ module _ {r : Run State} (w : Whole r) (p m : ℕ) (f : Fifo (r .now) p m) (out 
       (short-facts (r .now) p m q
       (not-true (fits (r .now) p m q) (lowest-short-law (r .now) p m .hit (omega (arith, some-short)))))
       (rw (lt-ltb q (r .now size) some-short))
-
--- a message that precedes another is lower
-pub lower : {r : Run State} → Whole r → (x m : ℕ) → Before (r .seen) x m → x < m
-lower {r} w x m b =
-    let (y, z) = precedes-before (r .seen) (r .now count) (w .formed) x m b in
-    omega (arith, w .meaning .counting .closed .before m .low x y, z)
 
 -- of q's messages to the group only one is next, so that lowest and highest are the same
 pub next-once : {r : Run State} → Whole r → (p q x y : ℕ) → x < r .now count → y < r .now count → Next (r .now) p q x

@@ -27,10 +27,11 @@ use Rattle.keeps.specs.Keeps.{SoundWords, sound-words-taken, world-taken}
 use Rattle.effects.specs.Logs.{log-item}
 use Rattle.order.specs.Cascade.{Fifo as FifoIn, Causal as CausalIn}
 use Rattle.order.specs.Runs.{Whole}
+use Rattle.order.specs.Order.{lower}
 use Rattle.carried.specs.Same.{Agree, same, awaited-agree, to-agree}
 use Rattle.carried.specs.Calls.{view-agree, log-carried, listed-in, in-listed}
 use Rattle.carried.specs.Carried.{written}
-use Rattle.awaits.specs.Next.{Told, message-low, all-told, lower}
+use Rattle.awaits.specs.Next.{Told, message-low, all-told}
 
 -- ---- the logs of a sound world, as the log call gives them
 module _ (w : List ℕ) (h : SoundWords w) (p : ℕ) (hp : p < view w size) where

@@ -10,7 +10,7 @@ use native.Mathlib.Nat.{not-suc-le-zero}
 use native.Mathlib.Decide.{ℕ-discrete}
 use borrow.Author.Tests.{not-true, not-false}
 use Rattle.definitions.specs.General.{first-from, every, some}
-use Rattle.base.specs.Tests.{bool-cases, clash, both, and-swap}
+use Rattle.base.specs.Tests.{bool-cases, clash, both, and-swap, le-or-lt}
 
 -- ---- the least below n that passes, or a proof that none does
 pub data Found (f : ℕ → Bool) (n : ℕ) : Type 0 where
@@ -79,6 +79,23 @@ first-cong (suc k) i f g h =
     ap₂ (λ (b : Bool) (r : ℕ). elim b as (λ _. ℕ) [ true ↦ i | false ↦ r ])
     (h i (omega arith) (omega arith))
     (first-cong k (suc i) f g (λ j a b. h j (omega arith) (omega arith)))
+
+-- what is found among the first k is found there in more, too
+pub first-among : (n k i : ℕ) (f : ℕ → Bool) → k ≤ n → first-from n i f < i + k → first-from n i f ≡ first-from k i f
+first-among n k i f l h = go (le-or-lt a b) (le-or-lt b a)
+  where
+    a : ℕ
+    a = first-from n i f
+
+    b : ℕ
+    b = first-from k i f
+
+    go : (a ≤ b) ⊎ (b < a) → (b ≤ a) ⊎ (a < b) → a ≡ b
+    go (inl c) (inl d) = omega arith
+    go (inr c) d =
+        clash (first-law k i f .hit (omega arith)) (first-law n i f .miss b (first-law k i f .low) c)
+    go (inl c) (inr d) =
+        clash (first-law n i f .hit (omega arith)) (first-law k i f .miss a (first-law n i f .low) d)
 
 -- a loop that searches: past one that fails, at one that passes, at the end
 pub first-skip : (f : ℕ → Bool) (n i : ℕ) → i < n → f i ≡ false

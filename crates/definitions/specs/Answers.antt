@@ -8,7 +8,7 @@ use Rattle.definitions.specs.Settle.{Ending, done, stopped}
 use Rattle.definitions.specs.Words.{NewDeliveries}
 use Rattle.definitions.specs.Replay.{Counts}
 use Rattle.definitions.specs.declared.Refusal.{Refusal}
-use Rattle.definitions.specs.declared.Refusal.the-variants.{WorldLength, WorldUnsound, BadSetup, Malformed, NoProcess, BadMask, NoMessage, BadTrust, Down, Full, NotInFlight, BothUp, JournalLength, WrongCheck, WrongForm, RecordsLength, OutputLength, NotWaiting}
+use Rattle.definitions.specs.declared.Refusal.the-variants.{WorldLength, WorldUnsound, BadSetup, Malformed, NoProcess, BadMask, NoMessage, BadTrust, Down, Full, NotInFlight, BothUp, JournalLength, WrongCheck, WrongForm, RecordsLength, OutputLength, NotWaiting, PairsLength}
 use Rattle.definitions.specs.declared.Outcome.{Outcome}
 use Rattle.definitions.specs.declared.Outcome.the-variants as outcome
 use Rattle.definitions.specs.declared.Amount.{Amount}
@@ -44,6 +44,7 @@ refusal-number WrongForm = 15
 refusal-number RecordsLength = 16
 refusal-number OutputLength = 17
 refusal-number NotWaiting = 18
+refusal-number PairsLength = 19
 
 -- Making a world, a step, writing and reading a journal: 0 where it is done, else the refusal's number.
 abbrev pub outcome-number : Outcome → ℕ
@@ -110,6 +111,6 @@ message-in before yes-now = before
 message-in before (message-of q x) = x
 message-in before (process-alone q) = before
 
--- The version of the engine, 9.4.0: a million times its first number, a thousand times its second, and its third.
+-- The version of the engine, 9.5.0: a million times its first number, a thousand times its second, and its third.
 abbrev pub version : ℕ
-version = 9004000
+version = 9005000

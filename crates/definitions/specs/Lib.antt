@@ -17,3 +17,4 @@ pub mod OrderNumbers
 pub mod Previews
 pub mod NothingToCome
 pub mod Awaits
+pub mod CameFirst

@@ -4,11 +4,11 @@
 -- Settle and History. Assumes nothing.
 use mathlib.Core.Bool.{Bool, true, false, not, _&&_}
 use mathlib.Core.List.{List, []}
-use Prim.Native.Nat.{ℕ, _-_}
-use lib.Dec.{eqb}
-use lib.ListN.{length, take, drop}
-use Rattle.definitions.specs.General.{needs, unless-refused, Reply, reply, sum}
-use Rattle.definitions.specs.World.{size, fifo-length, causal-length, fifo, causal, order, addr, State, encode, view, is-process, is-message, outside-fifo, outside-causal}
+use Prim.Native.Nat.{ℕ, _+_, _-_, _*_, _/_, _%_}
+use lib.Dec.{leb, eqb}
+use lib.ListN.{length, take, drop, getD}
+use Rattle.definitions.specs.General.{pick, needs, unless-refused, Reply, reply, every, tally, sum, first-from, absent, tabulate, bit}
+use Rattle.definitions.specs.World.{size, count, fifo-length, causal-length, fifo, causal, sender, mask, stamp, order, addr, State, encode, view, is-process, is-message, outside-fifo, outside-causal}
 use Rattle.definitions.specs.Sound.{sound}
 use Rattle.definitions.specs.Setup.{setup-refusal, made}
 use Rattle.definitions.specs.Machine.{Awaited, awaited, arrival}
@@ -96,6 +96,54 @@ awaited-refusal w p m =
 -- "A call gives it for a process and a message."
 unfoldable pub awaited-reply : List ℕ → ℕ → ℕ → Reply Awaited
 awaited-reply w p m = reply (awaited-refusal w p m) (awaited (view w) p m)
+
+-- ---- which of two messages came first, for many pairs (document 02, card 6)
+-- "the lowest of its groups": of message x, of the 8 that there may be.
+abbrev pub lowest-group : State → ℕ → ℕ
+lowest-group s x = first-from 8 0 (bit (s (mask x)))
+
+-- "the first's own sender's entry for the lowest of its groups against the second's entry there": x is the first, and the
+-- entry is that on m, which is x itself or the second.
+abbrev pub entry-on : State → ℕ → ℕ → ℕ
+entry-on s x m = s (stamp m (lowest-group s x) (s (sender x)))
+
+-- "the byte is 1 when the first's is at most the second's and the two messages differ"; it is "0 or 1".
+unfoldable pub precedes-byte : State → ℕ → ℕ → ℕ
+precedes-byte s x m = pick (leb (entry-on s x x) (entry-on s x m) && not (eqb x m)) 1 0
+
+-- "Pairs come as a lent slice of 16-bit words, two to a pair": the first and the second of pair i.
+abbrev pub first-of : List ℕ → ℕ → ℕ
+first-of pairs i = getD pairs (i * 2) 0
+
+abbrev pub second-of : List ℕ → ℕ → ℕ
+second-of pairs i = getD pairs (i * 2 + 1) 0
+
+-- Not "an odd or over-long pair slice or an answer slice of another length than the number of pairs": "up to 256 pairs".
+unfoldable pub good-lengths : ℕ → ℕ → Bool
+good-lengths words bytes = eqb (words % 2) 0 && leb words 512 && eqb bytes (words / 2)
+
+-- Not "a pair naming no message": every word names one.
+unfoldable pub all-named : State → List ℕ → Bool
+all-named s pairs = every (length pairs) (λ i. is-message s (getD pairs i 0))
+
+-- "It refuses with 19, after 2", other lengths; "after 19, a pair naming no message gets 7".
+unfoldable pub precedes-refusal : List ℕ → List ℕ → List ℕ → ℕ
+precedes-refusal w pairs answers =
+    needs-world w
+    (needs 19 (good-lengths (length pairs) (length answers)) (needs 7 (all-named (view w) pairs) 0))
+
+-- "one answer byte each, 0 or 1, goes to a second slice"
+unfoldable pub precedes-bytes : List ℕ → List ℕ → List ℕ → List ℕ
+precedes-bytes w pairs answers =
+    unless-refused (precedes-refusal w pairs answers)
+    (tabulate (length answers) (λ i. precedes-byte (view w) (first-of pairs i) (second-of pairs i))) answers
+
+-- "The number of different messages named in the pairs": how many of the messages stand among the words.
+unfoldable pub different : State → List ℕ → ℕ
+different s pairs = tally (s count) (λ m. not (absent (length pairs) m (λ i. getD pairs i 0)))
+
+unfoldable pub precedes-reply : List ℕ → List ℕ → List ℕ → Reply ℕ
+precedes-reply w pairs answers = reply (precedes-refusal w pairs answers) (different (view w) pairs)
 
 -- ---- preview of a step (document 02, card 2): "Preview takes a world, a step and a second slice of world length"
 -- "Refusal 1 covers either slice", and "A step that would be refused gives the same refusal": 2 is of the world only.

@@ -20,6 +20,7 @@ pub enum Refusal {
     RecordsLength,
     OutputLength,
     NotWaiting,
+    PairsLength,
 }
 
 // The answer of making a world, of a step, and of writing and reading a journal.
@@ -28,7 +29,8 @@ pub enum Outcome {
     Refused(Refusal),
 }
 
-// The answer of a call that asks how many: the items of a log, the bytes of a journal, its records.
+// The answer of a call that asks how many: the items of a log, the bytes of a journal, its records, the messages that pairs
+// name.
 pub enum Amount {
     Is(usize),
     Refused(Refusal),

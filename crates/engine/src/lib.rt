@@ -9,7 +9,7 @@ use definitions::Settling;
 ghost use mathlib.Core.Path.{_≡_};
 ghost use lib.ListN.{length};
 ghost use Rattle.definitions.specs.General.{refusal-in, value-in};
-ghost use Rattle.definitions.specs.Words.{making-refusal, made-words, step-refusal, stepped-words, previewed-words, NewDeliveries, preview-reply, settle-reply, settled-words, log-start, length-reply, order-reply, awaited-reply};
+ghost use Rattle.definitions.specs.Words.{making-refusal, made-words, step-refusal, stepped-words, previewed-words, NewDeliveries, preview-reply, settle-reply, settled-words, log-start, length-reply, order-reply, awaited-reply, precedes-bytes, precedes-reply};
 ghost use Rattle.definitions.specs.Journal.{needed-reply, write-refusal, written, count-reply, read-refusal, read-out};
 ghost use Rattle.definitions.specs.Replay.{Counts, replay-reply, replayed-words};
 ghost use Rattle.definitions.specs.Answers.{arrivals-in, done-in, kind-in, process-in, message-in, version};
@@ -184,6 +184,28 @@ pub extern "C" fn wt_awaited(
             0
         }
         Awaiting::Refused(r) => answers::number(r),
+    }
+}
+
+// Writes for each pair of messages 1 if the first precedes the second, else 0, and gives how many different messages they
+// name: 0, 1, 2, 7 or 19.
+#[no_mangle]
+pub extern "C" fn wt_precedes(
+    w: &[u16],
+    pairs: &[u16],
+    answers: &mut [u8],
+    different: &mut u32,
+) -> u32
+    ensures answer { λ r. ⌜ r ≡ refusal-in (precedes-reply (now (w .entry)) (now (pairs .entry)) (now (answers .entry))) ⌝ }
+    ensures bytes { λ _. ⌜ now (answers .exit) ≡ precedes-bytes (now (w .entry)) (now (pairs .entry)) (now (answers .entry)) ⌝ }
+    ensures different { λ _. ⌜ now (different .exit) ≡ value-in (λ n. n) (precedes-reply (now (w .entry)) (now (pairs .entry)) (now (answers .entry))) (now (different .entry)) ⌝ }
+{
+    match reading::precedes(w, pairs, answers) {
+        Amount::Is(n) => {
+            *different = n as u32;
+            0
+        }
+        Amount::Refused(r) => answers::number(r),
     }
 }
 

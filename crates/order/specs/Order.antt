@@ -243,6 +243,12 @@ counter-meaning {r} w = record {
         → e + r .now (stamp m g (r .now (sender m))) ≤ bound (r .now (sender m))
     below e bound g (in-at i l d) h = rw d at (h i l)
 
+-- ---- a message that precedes another is lower
+pub lower : {r : Run State} → Whole r → (x m : ℕ) → Before (r .seen) x m → x < m
+lower {r} w x m b =
+    let (y, z) = precedes-before (r .seen) (r .now count) (w .formed) x m b in
+    omega (arith, w .meaning .counting .closed .before m .low x y, z)
+
 -- ---- for every setup record that is taken and every list of items
 pub reached : (setup : List ℕ) (items : List Item) → setup-refusal setup ≡ 0
     → Whole (run on-states (started setup) items)

@@ -1,19 +1,20 @@
 -- What the tests of a lent world decide: refusals 1 and 2, or a sound world, of which each call gives what its own
 -- sentence says. Assumes nothing.
 use mathlib.Core.Path.{_≡_, refl, sym, _∙_}
-use mathlib.Core.Bool.{Bool, true, false}
+use mathlib.Core.Bool.{Bool, true, false, not}
 use mathlib.Core.List.{List, []}
 use Prim.Native.Nat.{ℕ, suc, _+_, _≤_, _<_}
 use native.Mathlib.Omega.{arith}
 use lib.Dec.{eqb, ltb}
 use lib.ListN.{length, take, drop, getD}
 use borrow.Author.Tests.{eq-eqb, ne-eqb, lt-ltb, le-ltb, ltb-true}
-use Rattle.definitions.specs.General.{needs, gives, refuses, reply}
-use Rattle.definitions.specs.World.{size, addr, encode, view, is-message}
+use Rattle.definitions.specs.General.{needs, gives, refuses, reply, absent}
+use Rattle.definitions.specs.World.{size, count, addr, encode, view, is-message}
 use Rattle.definitions.specs.Sound.{sound}
 use Rattle.definitions.specs.Steps.{read, refusal, after}
-use Rattle.definitions.specs.Words.{needs-world, step-refusal, stepped-words, settled-words, settle-reply, log-length, log-start, log-refusal, log-words, length-reply, is-waiting, awaited-refusal}
+use Rattle.definitions.specs.Words.{needs-world, step-refusal, stepped-words, settled-words, settle-reply, log-length, log-start, log-refusal, log-words, length-reply, is-waiting, awaited-refusal, good-lengths, precedes-refusal, precedes-bytes, different, precedes-reply}
 use Rattle.base.specs.Refusals.{needs-none, reply-gives}
+use Rattle.base.specs.Count.{tally-le}
 use Rattle.world.specs.SoundLaws.{sound-facts, size-high, count-high, fifo-length-high, causal-length-high}
 use Rattle.keeps.specs.Keeps.{SoundWords, sound-words-taken, world-taken, taken-sound-words, sound-refusal, sound-stepped}
 
@@ -139,3 +140,28 @@ pub awaited-after : (w : List ℕ) (p m : ℕ) → SoundWords w → p < view w s
     → awaited-refusal w p m ≡ needs 7 (is-message (view w) m) (needs 18 (is-waiting (view w) p m) 0)
 unfolding awaited-refusal
 awaited-after w p m h there = sound-words-taken w h _ ∙ rw (lt-ltb p (view w size) there)
+
+-- ---- which messages came first: a refusal leaves the answers
+pub pairs-refused : (w pairs answers : List ℕ) (n : ℕ) → (n ≡ 0 → ⊥) → n ≡ precedes-refusal w pairs answers
+    → (refuses n ≡ precedes-reply w pairs answers) × (answers ≡ precedes-bytes w pairs answers)
+unfolding precedes-reply precedes-bytes
+pairs-refused w pairs answers n h e = (rw (← e, ne-eqb n 0 h), rw (← e, ne-eqb n 0 h))
+
+-- of no world, and of other lengths
+pub pairs-no-world : (w pairs answers : List ℕ) (n : ℕ) → (n ≡ 0 → ⊥) → n ≡ needs-world w 0
+    → n ≡ precedes-refusal w pairs answers
+unfolding precedes-refusal
+pairs-no-world w pairs answers n h e = e ∙ still-refused w 0 _ (λ z. h (e ∙ z))
+
+pub pairs-lengths : (w pairs answers : List ℕ) → needs-world w 0 ≡ 0
+    → good-lengths (length pairs) (length answers) ≡ false → 19 ≡ precedes-refusal w pairs answers
+unfolding precedes-refusal
+pairs-lengths w pairs answers h e = sym (still-taken w _ h ∙ rw e)
+
+-- a number that is given is at most 64
+pub pairs-given : (w pairs answers : List ℕ) (n : ℕ) → gives n ≡ precedes-reply w pairs answers → n ≤ 64
+unfolding precedes-reply precedes-refusal different
+pairs-given w pairs answers n e =
+    let (z, d) = reply-gives (precedes-refusal w pairs answers) n (different (view w) pairs) e in
+    let (h, _) = world-taken w _ z in
+    omega (arith, d, tally-le (view w count) (λ m. not (absent (length pairs) m (λ i. getD pairs i 0))), count-high (view w) (h .reads))

@@ -1,5 +1,5 @@
-// Words that are lent as a world, tested; the logs of a world and the order numbers of its messages read, and whose message
-// is awaited. None of it asks anything of its caller.
+// Words that are lent as a world, tested; the logs of a world and the order numbers of its messages read, whose message is
+// awaited, and which messages came first. None of it asks anything of its caller.
 use definitions::Amount;
 use definitions::Awaiting;
 use definitions::OrderNumber;
@@ -7,7 +7,7 @@ use definitions::Outcome;
 use definitions::Refusal;
 ghost use mathlib.Core.Path.{_≡_};
 ghost use Prim.Native.Nat.{_<_};
-ghost use Rattle.definitions.specs.Words.{needs-world, log-words, length-reply, order-reply, awaited-reply};
+ghost use Rattle.definitions.specs.Words.{needs-world, log-words, length-reply, order-reply, awaited-reply, precedes-bytes, precedes-reply};
 ghost use Rattle.definitions.specs.Answers.{refusal-number, outcome-number, amount-reply, order-number-reply, awaiting-reply};
 ghost use Rattle.reading.specs.Tested.{present-refusal};
 
@@ -83,4 +83,19 @@ pub fn awaited(w: &[u16], p: usize, m: usize) -> Awaiting
         return awaiting::answer(w, p, m);
     }
     Awaiting::Refused(Refusal::NotWaiting)
+}
+
+// Writes for each pair of messages whether the first precedes the second, and gives how many different ones they name: 1, 2,
+// 19, then 7.
+pub fn precedes(w: &[u16], pairs: &[u16], answers: &mut [u8]) -> Amount
+    ensures answer { λ r. ⌜ amount-reply r ≡ precedes-reply (now (w .entry)) (now (pairs .entry)) (now (answers .entry)) ⌝ }
+    ensures bytes { λ _. ⌜ now (answers .exit) ≡ precedes-bytes (now (w .entry)) (now (pairs .entry)) (now (answers .entry)) ⌝ }
+{
+    if let Outcome::Refused(r) = tested(w) {
+        return Amount::Refused(r);
+    }
+    if !comparing::good_lengths(pairs.len(), answers.len()) {
+        return Amount::Refused(Refusal::PairsLength);
+    }
+    comparing::compare(w, pairs, answers)
 }

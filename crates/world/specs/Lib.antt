@@ -10,3 +10,4 @@ pub mod Local
 pub mod Fuel
 pub mod Awaited
 pub mod Items
+pub mod Pairs

@@ -29,6 +29,7 @@ pub fn run(case: &str, side: &Side, processes: usize, messages: usize) -> Option
         "log" => (side.log)(&full(&setup, messages)),
         "order" => order(side, &full(&setup, messages)),
         "awaited" => awaited(side, &setup, messages),
+        "precedes" => precedes(side, &setup, messages),
         "copy" => copy(&full(&setup, messages)),
         "preview" => preview(side, &setup, messages),
         "arrival" => arrival(side, &setup, messages),
@@ -116,6 +117,22 @@ fn overtaking(setup: &[u8], messages: usize) -> Vec<u16> {
     let process = &world.processes[0];
     assert_eq!((process.fifo_log.len(), process.causal_log.len()), (messages - 1, messages - 2));
     words::encode(&world)
+}
+
+/// Four pairs for each message of the full world, with messages of its own process and of others. No message arrived
+/// before the last was multicast: each precedes the later ones of its process, and no others.
+fn precedes(side: &Side, setup: &[u8], messages: usize) -> usize {
+    let processes = usize::from(setup[1]);
+    let distances = [1, processes, processes + 1, 2 * processes];
+    let pairs: Vec<[usize; 2]> =
+        distances.iter().flat_map(|far| (0..messages).map(move |x| [x, (x + far) % messages])).collect();
+    let words: Vec<u16> = pairs.concat().iter().map(|&message| message as u16).collect();
+    let mut answers = vec![255; pairs.len()];
+    assert_eq!((side.precedes)(&full(setup, messages), &words, &mut answers), messages as u32);
+    let right = pairs.iter().map(|[x, m]| u8::from(x % processes == m % processes && x < m));
+    assert_eq!(answers, right.collect::<Vec<u8>>());
+    assert!([0, 1].iter().all(|byte| answers.contains(byte)));
+    pairs.len()
 }
 
 /// The words of a world, copied.

@@ -23,6 +23,8 @@ pub struct Side {
     pub order: fn(&[u16]) -> u16,
     /// The process and the message that the last message awaits at process 0.
     pub awaited: fn(&[u16]) -> (usize, usize),
+    /// The number of different messages in the pairs.
+    pub precedes: fn(&[u16], &[u16], &mut [u8]) -> u32,
     pub step: fn(&mut [u16], &[u8]),
     /// The numbers of FIFO and causal deliveries.
     pub preview: fn(&[u16], &[u8], &mut [u16]) -> (u32, u32),
@@ -42,6 +44,9 @@ pub const ARCHIVE: Side = Side {
     awaited: |words| match engine::world::awaited(words, 0, LAST as u32) {
         Ok(engine::Awaited::Message { of, message }) => (of.into(), message.into()),
         other => panic!("a message is awaited: {other:?}"),
+    },
+    precedes: |words, pairs, answers| {
+        engine::world::precedes(words, pairs, answers).expect("pairs of messages")
     },
     step: |words, step| {
         let _ = engine::world::step(words, step);
@@ -64,6 +69,7 @@ pub const REFERENCE: Side = Side {
     log: reference_log,
     order: reference_order,
     awaited: reference_awaited,
+    precedes: reference_precedes,
     step: reference_step,
     preview: reference_preview,
     settle: reference_settle,
@@ -121,6 +127,12 @@ pub fn reference_awaited(words: &[u16]) -> (usize, usize) {
         Ok(Awaited::Message { of, message }) => (of, message),
         other => panic!("a message is awaited: {other:?}"),
     }
+}
+
+#[no_mangle]
+#[inline(never)]
+pub fn reference_precedes(words: &[u16], pairs: &[u16], answers: &mut [u8]) -> u32 {
+    calls::precedes(words, pairs, answers).expect("pairs of messages")
 }
 
 /// A copy by memcpy, which the mark of a preview has in it.

@@ -20,7 +20,7 @@ use std::process::ExitCode;
 use std::thread;
 use std::time::Instant;
 use tally::Tally;
-use world::{awaited, waiting};
+use world::{awaited, precedes, waiting};
 
 /// A capability to compare.
 struct Area {
@@ -35,7 +35,7 @@ struct Area {
     weight: u64,
 }
 
-const AREAS: [Area; 9] = [
+const AREAS: [Area; 10] = [
     Area { name: "journal", input: journal::input, answers: journal::ANSWERS, cover: &[], weight: 1 },
     Area { name: "world", input: world::input, answers: world::ANSWERS, cover: world::COVER, weight: 50 },
     Area {
@@ -64,6 +64,13 @@ const AREAS: [Area; 9] = [
         input: awaited::input,
         answers: awaited::ANSWERS,
         cover: awaited::COVER,
+        weight: 50,
+    },
+    Area {
+        name: "precedes",
+        input: precedes::input,
+        answers: precedes::ANSWERS,
+        cover: precedes::COVER,
         weight: 50,
     },
     Area {

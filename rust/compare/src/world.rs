@@ -1,9 +1,10 @@
-//! The calls on a lent world: worlds sound and not, setups, lists of steps, previews, settles, journals to replay, and
-//! whose message is awaited.
+//! The calls on a lent world: worlds sound and not, setups, lists of steps, previews, settles, journals to replay, whose
+//! message is awaited, and which of two messages came first.
 
 pub mod awaited;
 mod calls;
 mod inputs;
+pub mod precedes;
 pub mod waiting;
 
 use crate::difference::Difference;
@@ -28,6 +29,7 @@ pub const ANSWERS: &[(&str, &[u32])] = &[
     ("order, none", &[0]),
     ("order", &[1, 2, 7]),
     ("awaited", &[1, 2, 5, 7, 18]),
+    ("precedes", &[0, 1, 2, 7, 19]),
     ("step", &[0, 1, 2, 4, 5, 6, 7, 8, 9, 10, 11, 12]),
     ("preview, none added", &[0]),
     ("preview, length of the world", &[1]),
@@ -156,7 +158,7 @@ fn one_order_changed(turn: u64, random: &mut Random, tally: &mut Tally) -> Resul
     Ok(())
 }
 
-/// A log, an order number and what is awaited, and now and then a step, its preview and a settle.
+/// A log, an order number, what is awaited and what came first, and now and then a step, its preview and a settle.
 fn all_calls(words: &[u16], random: &mut Random, tally: &mut Tally) -> Result<(), Difference> {
     let words = Lent::holding(random, words);
     let process = random.below(18) as u32;
@@ -164,6 +166,8 @@ fn all_calls(words: &[u16], random: &mut Random, tally: &mut Tally) -> Result<()
     calls::order(&words, inputs::message(random, words.part()), tally)?;
     let message = inputs::message(random, words.part());
     calls::awaited(&words, process, message, random, tally)?;
+    let asked = inputs::asked(random, words.part());
+    calls::precedes(&words, &asked, random, tally)?;
     if random.one_in(4) {
         let step = inputs::any_step(random);
         calls::step(&words, &step, random, tally)?;

@@ -32,4 +32,4 @@ pub mod world;
 pub use record::{Letter, LetterKind, Record, Setup, Step, GROUPS, MESSAGES, PROCESSES};
 pub use refusal::Refusal;
 pub use version::VERSION;
-pub use world::{Awaited, Previewed, Replayed, Settled, World, SETTLE_ALL, WORDS};
+pub use world::{Awaited, Precedence, Previewed, Replayed, Settled, World, PAIRS, SETTLE_ALL, WORDS};

@@ -35,6 +35,15 @@ extern "C" {
         of: *mut u32,
         awaited: *mut u32,
     ) -> u32;
+    fn wt_precedes(
+        world: *const u16,
+        world_length: usize,
+        pairs: *const u16,
+        pairs_length: usize,
+        answers: *mut u8,
+        answers_length: usize,
+        different: *mut u32,
+    ) -> u32;
     fn wt_step(world: *mut u16, world_length: usize, step: *const u8, step_length: usize) -> u32;
     fn wt_preview(
         world: *const u16,
@@ -115,6 +124,12 @@ pub fn awaited(
 ) -> u32 {
     version::test(version());
     unsafe { wt_awaited(world.as_ptr(), world.len(), process, message, kind, of, awaited) }
+}
+
+pub fn precedes(world: &[u16], pairs: &[u16], answers: &mut [u8], different: &mut u32) -> u32 {
+    version::test(version());
+    let (bytes, length) = (answers.as_mut_ptr(), answers.len());
+    unsafe { wt_precedes(world.as_ptr(), world.len(), pairs.as_ptr(), pairs.len(), bytes, length, different) }
 }
 
 pub fn step(world: &mut [u16], step: &[u8]) -> u32 {

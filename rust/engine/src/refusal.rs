@@ -35,11 +35,12 @@ pub enum Refusal {
     RecordsLength = 16,
     OutputLength = 17,
     NotWaiting = 18,
+    PairsLength = 19,
 }
 
 impl Refusal {
     /// All refusals, in the order of their numbers.
-    pub const ALL: [Refusal; 18] = [
+    pub const ALL: [Refusal; 19] = [
         Refusal::WorldLength,
         Refusal::NotSound,
         Refusal::Setup,
@@ -58,6 +59,7 @@ impl Refusal {
         Refusal::RecordsLength,
         Refusal::OutputLength,
         Refusal::NotWaiting,
+        Refusal::PairsLength,
     ];
 
     /// The answer of the archive: 0, or a refusal's number.
@@ -73,7 +75,7 @@ impl Refusal {
         self as u32
     }
 
-    /// Who causes it, and how, for whoever looks it up: the words of document 01, and for 18 those of document 02.
+    /// Who causes it, and how, for whoever looks it up: the words of document 01, and from 18 on of document 02.
     pub fn text(self) -> &'static str {
         match self {
             Refusal::WorldLength => "whoever lends storage: world not 20,480 words",
@@ -103,6 +105,9 @@ impl Refusal {
             Refusal::OutputLength => "whoever writes one: output length not what is needed",
             Refusal::NotWaiting => {
                 "the state of the mill: message that isn't in that process's FIFO log or is already in its causal log"
+            }
+            Refusal::PairsLength => {
+                "whoever lends storage: odd or over-long pair slice or an answer slice of another length than the number of pairs"
             }
         }
     }
@@ -135,6 +140,9 @@ impl Refusal {
             Refusal::OutputLength => "what was lent for the output is not just as long as the output",
             Refusal::NotWaiting => {
                 "that message does not wait at that process: its FIFO log lacks it, or its causal log has it already"
+            }
+            Refusal::PairsLength => {
+                "pairs are two words each, at most 256 pairs, with one answer byte for each, and these are not"
             }
         }
     }

@@ -9,6 +9,9 @@ pub const WORDS: usize = 20_480;
 /// A settle that may make so many arrivals says done, in a world that steps reached.
 pub const SETTLE_ALL: u32 = 33_792;
 
+/// The most pairs of messages that can be asked about at once.
+pub const PAIRS: usize = 256;
+
 /// A world of up to 16 processes, 8 groups and 64 messages. Its words are sound: only the calls below change them.
 ///
 /// ```
@@ -176,6 +179,32 @@ impl World {
         awaited(&self.words, process.into(), message.into())
     }
 
+    /// Whether the first message of each pair precedes the second, for up to [`PAIRS`] pairs; and how many different
+    /// messages the pairs name. A message never precedes itself. Refusal 19 for more pairs, then 7; [`precedes`] takes
+    /// slices of any length, and gives every refusal.
+    ///
+    /// ```
+    /// use engine::{LetterKind, Precedence, Refusal, Step, World};
+    ///
+    /// // Process 1 has delivered message 0 when it multicasts message 1. Process 2 has delivered neither.
+    /// let mut world = World::new(&[0, 1, 2])?;
+    /// world.step(Step::multicast(0, &[1])?)?;
+    /// world.step(Step::arrival(LetterKind::First, 0, 0, 1))?;
+    /// world.step(Step::arrival(LetterKind::Ok, 0, 1, 1))?;
+    /// world.step(Step::multicast(1, &[2])?)?;
+    /// world.step(Step::multicast(2, &[1])?)?;
+    /// let answers = vec![true, false, false];
+    /// assert_eq!(world.precedes(&[[0, 1], [1, 0], [0, 2]]), Ok(Precedence { answers, different: 3 }));
+    /// assert_eq!(world.precedes(&[[0, 1], [0, 3]]), Err(Refusal::Message));
+    /// assert_eq!(world.precedes(&[[0, 1]; 257]), Err(Refusal::PairsLength));
+    /// # Ok::<(), Refusal>(())
+    /// ```
+    pub fn precedes(&self, pairs: &[[u16; 2]]) -> Result<Precedence, Refusal> {
+        let mut answers = vec![0; pairs.len()];
+        let different = precedes(&self.words, &pairs.concat(), &mut answers)?;
+        Ok(Precedence { answers: answers.iter().map(|&answer| answer == 1).collect(), different })
+    }
+
     /// The number of processes.
     pub fn processes(&self) -> usize {
         layout::processes(&self.words)
@@ -267,6 +296,24 @@ pub fn awaited(world: &[u16], process: u32, message: u32) -> Result<Awaited, Ref
         2 => Ok(Awaited::Process { of }),
         _ => panic!("the archive has three kinds of answers"),
     }
+}
+
+/// Which came first, for many pairs of messages.
+#[derive(Clone, Debug, PartialEq, Eq)]
+pub struct Precedence {
+    /// Whether the first message precedes the second, pair by pair.
+    pub answers: Vec<bool>,
+    /// How many different messages the pairs name.
+    pub different: u32,
+}
+
+/// Puts a byte for each pair of messages, two words each, into a second slice: 1 if the first precedes the second, else
+/// 0; how many different messages the pairs name. Refusals 1, 2, 19 (pairs of odd length or of more than 512 words, or
+/// answers of another length than the number of pairs), then 7.
+pub fn precedes(world: &[u16], pairs: &[u16], answers: &mut [u8]) -> Result<u32, Refusal> {
+    let mut different = 0;
+    Refusal::check(raw::precedes(world, pairs, answers, &mut different))?;
+    Ok(different)
 }
 
 /// Takes a step of 8 bytes. Refusals 1, 2, 4 to 12.

@@ -3,7 +3,7 @@
 //! docs/TRACE.md has their sentences.
 
 use engine::{journal, Awaited, LetterKind, Previewed, Record, Refusal, Setup, Step, World};
-use engine::{GROUPS, MESSAGES, PROCESSES, SETTLE_ALL, WORDS};
+use engine::{GROUPS, MESSAGES, PAIRS, PROCESSES, SETTLE_ALL, WORDS};
 use std::fs;
 use std::path::Path;
 
@@ -29,6 +29,7 @@ fn sizes() -> Vec<String> {
         ),
         "blocks: as many as the bytes and the records".to_string(),
         format!("a whole settle: {SETTLE_ALL} arrivals"),
+        format!("at once: {PAIRS} pairs"),
     ]
 }
 
@@ -102,8 +103,19 @@ fn world() -> Result<Vec<String>, Refusal> {
     Ok(lines)
 }
 
-/// A message that waits; then edited words, in which nothing is awaited, or a process alone.
-fn awaited() -> Result<Vec<String>, Refusal> {
+/// Which of three messages came first.
+fn precedes(what: &str, world: &World) -> Result<String, Refusal> {
+    let pairs = [[0, 1], [0, 2], [1, 2], [1, 0], [2, 0], [2, 1], [0, 0]];
+    let precedence = world.precedes(&pairs)?;
+    let answers = pairs.iter().zip(&precedence.answers);
+    let answers =
+        answers.map(|(pair, &yes)| format!(" {} {} {},", pair[0], pair[1], if yes { "yes" } else { "no" }));
+    Ok(format!("precedes, {what}:{} {} different", answers.collect::<String>(), precedence.different))
+}
+
+/// A message that waits; then edited words, in which nothing is awaited, or a process alone. And which came first in
+/// these worlds.
+fn waiting() -> Result<Vec<String>, Refusal> {
     let mut world = World::new(&[0, 1, 2])?;
     world.step(Step::multicast(0, &[2])?)?;
     world.step(Step::multicast(0, &[1])?)?;
@@ -113,17 +125,23 @@ fn awaited() -> Result<Vec<String>, Refusal> {
     world.step(Step::arrival(LetterKind::First, 2, 1, 2))?;
     world.step(Step::arrival(LetterKind::Ok, 2, 2, 2))?;
     let mut lines = vec!["refused: 0".to_string()];
+    let edited = |place: usize, word: u16| {
+        let mut words = world.words().to_vec();
+        words[place] = word;
+        World::from_words(words)
+    };
     let (del, counter) = (3 + 2 * 429 + 154, 6_867 + 2 + 2 * 16);
     let edits = [("as it is", 0, 3), ("del[0] 1", del, 1), ("C[2][0] of message 0 2", counter, 2)];
     for (what, place, word) in edits {
-        let mut words = world.words().to_vec();
-        words[place] = word;
-        let answer = match World::from_words(words)?.awaited(2, 2)? {
+        let answer = match edited(place, word)?.awaited(2, 2)? {
             Awaited::Nothing => "nothing".to_string(),
             Awaited::Message { of, message } => format!("message {message} of process {of}"),
             Awaited::Process { of } => format!("process {of}"),
         };
         lines.push(format!("awaited at process 2 by message 2, {what}: {answer}"));
+    }
+    for (what, place, word) in [edits[0], edits[2]] {
+        lines.push(precedes(what, &edited(place, word)?)?);
     }
     Ok(lines)
 }
@@ -135,7 +153,7 @@ fn the_wrapper_states_what_the_header_states() {
     lines.extend(refusals());
     lines.extend(records().unwrap());
     lines.extend(world().unwrap());
-    lines.extend(awaited().unwrap());
+    lines.extend(waiting().unwrap());
     assert_eq!(lines.join("\n") + "\n", read("tests/header/header.out"));
 }
 
@@ -200,12 +218,22 @@ fn refusals_have_the_words_of_document_01() {
     }
 }
 
+/// The sentence of document 02 has the words of the refusal between these two parts.
+fn has_the_words(refusal: Refusal, before: &str, behind: &str) {
+    let (_, words) = refusal.text().split_once(": ").expect("who, then how");
+    let sentence = format!("| {before} {words}{behind} |");
+    assert!(read("docs/TRACE.md").lines().any(|line| line.starts_with(&sentence)), "{sentence}");
+}
+
 #[test]
 fn refusal_18_has_the_words_of_document_02() {
-    let trace = read("docs/TRACE.md");
-    let (_, words) = Refusal::NotWaiting.text().split_once(": ").expect("who, then how");
-    let sentence = format!("| It refuses with 18, after 7, a {words}. |");
-    assert!(trace.lines().any(|line| line.starts_with(&sentence)), "{sentence}");
+    has_the_words(Refusal::NotWaiting, "It refuses with 18, after 7, a", ".");
+}
+
+#[test]
+fn refusal_19_has_the_words_of_document_02() {
+    let behind = "; after 19, a pair naming no message gets 7.";
+    has_the_words(Refusal::PairsLength, "It refuses with 19, after 2, an", behind);
 }
 
 #[test]

@@ -1,7 +1,7 @@
 //! What whoever runs a mill has to know: what to carry, what to keep, and when a world or a journal is full.
 
 use engine::{journal, raw, Letter, LetterKind, Record, Refusal, Setup, Step, World};
-use engine::{Awaited, Previewed, Settled, MESSAGES, PROCESSES, SETTLE_ALL, WORDS};
+use engine::{Awaited, Precedence, Previewed, Settled, MESSAGES, PAIRS, PROCESSES, SETTLE_ALL, WORDS};
 
 /// A world and the records that led to it.
 struct Mill {
@@ -522,6 +522,86 @@ fn a_refused_question_changes_nothing_that_was_lent() {
     let world = World::from_words(sound).unwrap();
     assert_eq!(world.awaited(3, 0), Err(Refusal::Process));
     assert_eq!(world.awaited(2, 3), Err(Refusal::Message));
+}
+
+/// The recipe, message 0, precedes the release, 1, and both the call, 2, from the multicasts on.
+#[test]
+fn which_came_first_is_told_for_many_pairs() {
+    let mut mill = waiting();
+    let pairs = [[0, 1], [0, 2], [1, 2], [1, 0], [2, 0], [2, 1], [0, 0], [2, 2]];
+    let answers = vec![true, true, true, false, false, false, false, false];
+    for letter in [Step::arrival(LetterKind::First, 0, 0, 2), Step::arrival(LetterKind::Ok, 0, 2, 2)] {
+        let before = mill.world.clone();
+        let precedence = Precedence { answers: answers.clone(), different: 3 };
+        assert_eq!(mill.world.precedes(&pairs), Ok(precedence));
+        assert_eq!(mill.world, before);
+        mill.take(letter);
+    }
+    assert_eq!(mill.world.precedes(&[]), Ok(Precedence { answers: vec![], different: 0 }));
+    let most = Precedence { answers: vec![true; PAIRS], different: 2 };
+    assert_eq!(mill.world.precedes(&[[0, 2]; PAIRS]), Ok(most));
+    assert_eq!(mill.world.precedes(&[[0, 2]; PAIRS + 1]), Err(Refusal::PairsLength));
+    assert_eq!(Refusal::PairsLength.number(), 19);
+    assert_eq!(mill.world.precedes(&[[0, 2], [0, 65_535]]), Err(Refusal::Message));
+}
+
+/// All that process 3 has delivered precedes its next message; and no message precedes an earlier one of a log.
+#[test]
+fn causal_logs_go_by_which_came_first() {
+    let mut mill = busy_mill();
+    mill.carry();
+    let delivered = mill.causal_log(3).to_vec();
+    mill.multicast(3, &[0, 1, 2]);
+    mill.carry();
+    let pairs: Vec<[u16; 2]> = delivered.iter().map(|&message| [message, 4]).collect();
+    assert_eq!(mill.world.precedes(&pairs), Ok(Precedence { answers: vec![true; 4], different: 5 }));
+    for process in [0, 1, 2, 3, 5] {
+        let log = mill.causal_log(process);
+        assert_eq!(log.last(), Some(&4));
+        for (place, &later) in log.iter().enumerate() {
+            let pairs: Vec<[u16; 2]> = log[..place].iter().map(|&earlier| [later, earlier]).collect();
+            assert_eq!(mill.world.precedes(&pairs).unwrap().answers, vec![false; place]);
+        }
+    }
+}
+
+/// Such words are sound, but no steps lead there: the counter of message 0 for its group decides.
+#[test]
+fn in_edited_words_one_counter_tells_which_came_first() {
+    for (words, bytes) in [(edited(COUNTER, 0), [1, 1, 0]), (edited(COUNTER, 2), [0, 0, 0])] {
+        let (lent, mut answers, mut different) = (words.clone(), [7; 3], 8);
+        assert_eq!(raw::precedes(&lent, &[0, 2, 0, 1, 2, 0], &mut answers, &mut different), 0);
+        assert_eq!((lent, answers, different), (words, bytes, 3));
+    }
+}
+
+#[test]
+fn refused_pairs_change_nothing_that_was_lent() {
+    let sound = waiting().world.words().to_vec();
+    let mut unsound = sound.clone();
+    unsound[0] = 17;
+    let (good, late, long) = ([0, 2].repeat(3), [0, 2, 0, 2, 2, 3], [0, 2].repeat(257));
+    let cases = [
+        (&sound[1..], &late[..5], 2, 1),
+        (&unsound[..], &late[..5], 2, 2),
+        (&unsound[..], &good[..], 3, 2),
+        (&sound[..], &good[..5], 2, 19),
+        (&sound[..], &good[..5], 3, 19),
+        (&sound[..], &long[..], 257, 19),
+        (&sound[..], &good[..], 2, 19),
+        (&sound[..], &late[..], 4, 19),
+        (&sound[..], &[][..], 1, 19),
+        (&sound[..], &late[..], 3, 7),
+        (&sound[..], &[64, 0][..], 1, 7),
+        (&sound[..], &[0, 65_535][..], 1, 7),
+    ];
+    for (words, pairs, length, answer) in cases {
+        let (lent, lent_pairs) = (words.to_vec(), pairs.to_vec());
+        let (mut answers, mut different) = (vec![7; length], 8);
+        assert_eq!(raw::precedes(&lent, &lent_pairs, &mut answers, &mut different), answer);
+        assert_eq!((answers, different), (vec![7; length], 8), "refusal {answer}");
+        assert_eq!((&lent[..], &lent_pairs[..]), (words, pairs));
+    }
 }
 
 #[test]

@@ -82,6 +82,12 @@ pub fn awaited(words: &[u16], process: usize, message: usize) -> Result<Awaited,
     sound::read(words)?.awaited(process, message)
 }
 
+/// Document 02, card 6: for each pair of messages, whether the first precedes the second; the number of different
+/// messages in the pairs. Refusals 1, 2, 19, 7, in this order.
+pub fn precedes(words: &[u16], pairs: &[u16], answers: &mut [u8]) -> Result<u32, Refusal> {
+    sound::read(words)?.precedes(pairs, answers)
+}
+
 /// Replays a journal: the number of records after the setup, and how many of these were refused. Refusals 1, 13,
 /// block by block 14 and 15, then 3.
 pub fn replay(words: &mut [u16], journal: &[u8]) -> Result<(u32, u32), Refusal> {

@@ -1,4 +1,4 @@
-//! Document 01, "Refusals, by who causes them", and the one of card 5 of document 02.
+//! Document 01, "Refusals, by who causes them", and those of cards 5 and 6 of document 02.
 
 /// A refusal; its value is its number. It changes nothing that was lent.
 #[derive(Clone, Copy, Debug, PartialEq, Eq)]
@@ -39,6 +39,8 @@ pub enum Refusal {
     OutputLength = 17,
     /// Message not in the FIFO log of the process, or already in its causal log.
     NotWaiting = 18,
+    /// Pairs of odd length or over-long, or answers of another length than the number of pairs.
+    PairsLength = 19,
 }
 
 impl Refusal {

@@ -3,7 +3,7 @@
 //! slow, and the call comes before the recipe: the mixer has the call, but does not act on it before the recipe, which
 //! causally precedes it. The recipe and the batch are for one sales order, whose number they carry; the release is for
 //! none. Before the last letter of the call and that of the recipe arrive, previews show what each would do; in between
-//! the engine says whose message the call awaits.
+//! the engine says whose message the call awaits, and which of the two came first.
 
 use engine::{Awaited, LetterKind, Refusal, Step, World};
 
@@ -83,6 +83,16 @@ impl Mill {
         Ok(())
     }
 
+    /// Which came first, the recipe or the call.
+    fn print_precedes(&self) -> Result<(), Refusal> {
+        let pairs = [[0, 2], [2, 0]];
+        for ([first, second], precedes) in pairs.into_iter().zip(self.world.precedes(&pairs)?.answers) {
+            let verb = if precedes { "precedes" } else { "does not precede" };
+            println!("message {first} {verb} message {second}");
+        }
+        Ok(())
+    }
+
     fn print_logs(&self) -> Result<(), Refusal> {
         for machine in [OFFICE, WEIGHBRIDGE, MIXER] {
             println!("{}", logs(&self.world, machine)?);
@@ -134,6 +144,7 @@ fn main() -> Result<(), Refusal> {
     mill.arrive(LetterKind::Ok, 2, MIXER, MIXER)?;
     mill.print_letters();
     mill.print_awaited(MIXER, 2)?;
+    mill.print_precedes()?;
     mill.print_logs()?;
     mill.arrive(LetterKind::First, 0, OFFICE, MIXER)?;
     mill.preview(LetterKind::Ok, 0, MIXER, MIXER)?;

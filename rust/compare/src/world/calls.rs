@@ -1,6 +1,6 @@
 //! Each call on both sides: the answers are the same, and all lent words too, as they were on a refusal.
 
-use super::inputs::{SecondSlice, SLICE_LENGTHS};
+use super::inputs::{Asked, SecondSlice, SLICE_LENGTHS};
 use crate::difference::{same, Difference};
 use crate::lent::Lent;
 use crate::tally::{number, Tally};
@@ -129,6 +129,40 @@ fn of_wrapper(answer: archive::Awaited) -> Awaited {
         }
         archive::Awaited::Process { of } => Awaited::Process { of: of.into() },
     }
+}
+
+/// Which came first, for pairs of messages, on lent words that need not be sound.
+pub fn precedes(words: &Lent<u16>, asked: &Asked, random: &mut Random, tally: &mut Tally) -> Compared {
+    let mut expected = asked.answers.clone();
+    let right = second::precedes(words.part(), asked.pairs.part(), expected.part_mut());
+    same_precedes(words, asked, right, &expected, random, tally)
+}
+
+/// The archive gives this number, or this refusal and leaves the lent number as it was. The answers are then these, and
+/// the words and the pairs stay as they were.
+pub fn same_precedes(
+    words: &Lent<u16>,
+    asked: &Asked,
+    right: Result<u32, Refusal>,
+    expected: &Lent<u8>,
+    random: &mut Random,
+    tally: &mut Tally,
+) -> Compared {
+    let (lent, pairs, mut answers) = (words.clone(), asked.pairs.clone(), asked.answers.clone());
+    let before = random.next() as u32;
+    let mut different = before;
+    let answer = raw::precedes(lent.part(), pairs.part(), answers.part_mut(), &mut different);
+    tally.answer("precedes", number(&right));
+    same("precedes: answer", answer, number(&right))?;
+    same("precedes: lent number", different, right.unwrap_or(before))?;
+    answers.same(expected, "precedes: answers")?;
+    lent.same(words, "precedes: world")?;
+    pairs.same(&asked.pairs, "precedes: pairs")?;
+    let mut wrapped = asked.answers.clone();
+    let different = archive::precedes(lent.part(), pairs.part(), wrapped.part_mut());
+    let different = different.map_err(|refusal| refusal.number());
+    same("precedes: wrapper", different, right.map_err(Refusal::number))?;
+    wrapped.same(expected, "precedes: answers of the wrapper")
 }
 
 /// A step on lent words that need not be sound.

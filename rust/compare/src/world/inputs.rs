@@ -132,6 +132,28 @@ pub fn message(random: &mut Random, words: &[u16]) -> u32 {
     }
 }
 
+/// Pairs to ask about, and room for their answers.
+pub struct Asked {
+    pub pairs: Lent<u16>,
+    pub answers: Lent<u8>,
+}
+
+impl Asked {
+    /// These pairs, and room for so many answers, with random content.
+    pub fn new(random: &mut Random, pairs: &[u16], answers: usize) -> Asked {
+        Asked { pairs: Lent::holding(random, pairs), answers: Lent::room(random, answers) }
+    }
+}
+
+/// A few pairs, whose messages mostly are of these words, with as many answers mostly.
+pub fn asked(random: &mut Random, words: &[u16]) -> Asked {
+    let length = random.between(0, 8) / 2 * 2 + usize::from(random.one_in(8));
+    let answers = (length + random.pick(&[0, 0, 0, 2])) / 2;
+    let count = words.get(1).map_or(0, |&count| usize::from(count));
+    let pairs: Vec<u16> = (0..length).map(|_| random.below(count + 1) as u16).collect();
+    Asked::new(random, &pairs, answers)
+}
+
 /// Some step for a world that need not be sound.
 pub fn any_step(random: &mut Random) -> Vec<u8> {
     let kind = random.below(4) as u8;
