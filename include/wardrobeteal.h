@@ -31,10 +31,10 @@
  * office does. No set of mixer 1 may leave out mixer 2, the only one of the group that is up at the end. All letters
  * to mixer 2 can be lost, and it never gets the recipe that mixer 1 acted on.
  *
- * If the rule is kept, a settle with WT_SETTLE_ALL says done and leaves, in the FIFO log of every addressee that is
- * up, each message that a process that is up multicast, or that any process, up or down, has FIFO-delivered. If it
- * is broken, the settle still says done, but the FIFO logs need not agree so. The order within the logs holds in
- * either case.
+ * If the rule is kept, a settle with WT_SETTLE_ALL, wt_settle or wt_settle_fair, says done and leaves, in the FIFO log
+ * of every addressee that is up, each message that a process that is up multicast, or that any process, up or down,
+ * has FIFO-delivered. If it is broken, the settle still says done, but the FIFO logs need not agree so. The order
+ * within the logs holds in either case.
  */
 #ifndef WARDROBETEAL_H
 #define WARDROBETEAL_H
@@ -44,8 +44,8 @@
 #include <stdint.h>
 
 /* The version of this header, as text and as the number that wt_version gives. */
-#define WT_VERSION "9.5.0"
-#define WT_VERSION_NUMBER 9005000
+#define WT_VERSION "9.6.0"
+#define WT_VERSION_NUMBER 9006000
 
 #ifdef __cplusplus
 extern "C" {
@@ -140,6 +140,26 @@ uint32_t wt_preview(const uint16_t *world, size_t world_length, const uint8_t *s
 uint32_t wt_settle(uint16_t *world, size_t world_length, uint32_t budget, uint32_t *arrivals, uint32_t *done);
 
 /*
+ * Makes arrivals as wt_settle does, but serves the processes in turn: after an arrival at process p the next is at the
+ * first process after p that is up and has a letter in flight to it, of the lowest letter to it, by message, kind,
+ * from. Behind the last process comes process 0, and p itself is tried last. Each call tries process 0 first, wherever
+ * the call before has stopped.
+ *   budget, arrivals, done   as for wt_settle
+ * Returns 0, or refusal 1, 2. Changes the words of world, *arrivals and *done.
+ *
+ * While a letter waits for a process that is up, among n processes, at most n - 1 arrivals elsewhere pass before one
+ * arrives there, if the budget allows. So take this call to share out a small budget, and at least n arrivals in each
+ * call, since each begins with process 0; if all is to come, either will do. In a world that steps reached both calls
+ * with WT_SETTLE_ALL end with the same messages in every log, the trust rule kept or not; the order of a log may differ.
+ *
+ * What is said of wt_settle is so of this call too, but for the steps that leave the same words. To take its arrivals as
+ * steps, keep the process of the last one, at first the last process of all. Try those after it, then those from 0 on,
+ * and it at the end, for one that is up: with wt_next_letter from 0, find the first letter to it. Take the arrival of
+ * the first letter that is found so, and begin again, until there is none.
+ */
+uint32_t wt_settle_fair(uint16_t *world, size_t world_length, uint32_t budget, uint32_t *arrivals, uint32_t *done);
+
+/*
  * Finds a log of a process. Its items are message numbers: world[*start] and those that follow.
  *   process   the process
  *   causal    true for its causal log, false for its FIFO log
@@ -199,7 +219,7 @@ uint32_t wt_precedes(const uint16_t *world, size_t world_length, const uint16_t 
 
 /*
  * Replays a journal, over whatever the words hold: makes the world from its first record, takes all others as steps.
- * The arrivals of a wt_settle are not in a journal, unless they were taken as steps (see there).
+ * The arrivals of wt_settle and wt_settle_fair are not in a journal, unless they were taken as steps (see there).
  *   journal, journal_length   the bytes of the journal
  *   steps                     where the number of records after the first is put
  *   refused                   where is put how many of these were refused; they changed nothing

@@ -1,7 +1,7 @@
 /*
  * Prints what the header states beside its declarations: sizes, the refusals' words, records written by its
- * functions, and what its functions read from a world; what two previews show, whose message is awaited, and which
- * came first. The wrapper's tests hold the wrapper to the same lines.
+ * functions, and what its functions read from a world; what two previews show, whose message is awaited, which came
+ * first, and what the two settles do. The wrapper's tests hold the wrapper to the same lines.
  */
 #include <stdio.h>
 #include <string.h>
@@ -216,6 +216,63 @@ static void print_waiting(void) {
     print_precedes("C[2][0] of message 0 2", counter, 2);
 }
 
+typedef uint32_t settle_call(uint16_t *, size_t, uint32_t, uint32_t *, uint32_t *);
+
+/* What a settle does on a copy of the world: its answers, and how many messages each process has causally delivered. */
+static void print_settle(const char *what, settle_call *settle, uint32_t budget) {
+    uint32_t arrivals = 7, done = 8, p, start, items, answer;
+    memcpy(after, world, sizeof world);
+    answer = settle(after, WT_WORLD_WORDS, budget, &arrivals, &done);
+    printf("%s %u: refusal %u, %u arrivals, %s, causally delivered", what, (unsigned)budget, (unsigned)answer,
+           (unsigned)arrivals, done == 1 ? "done" : done == 0 ? "stopped" : "wrong");
+    for (p = 0; p < wt_processes(after); p++) {
+        if (wt_world_log(after, WT_WORLD_WORDS, p, true, &start, &items) == 0) printf(" %u", (unsigned)items);
+    }
+    printf("\n");
+}
+
+/* The first letter to the first process, of those behind this one and this one at the end, that is up and has one. */
+static bool next_in_turn(uint32_t last, struct wt_letter *letter) {
+    uint32_t n = wt_processes(world), i;
+    for (i = 1; i <= n; i++) {
+        uint32_t to = (last + i) % n, cursor = 0;
+        while (wt_is_up(world, to) && wt_next_letter(world, &cursor, letter)) {
+            if (letter->to == to) return true;
+        }
+    }
+    return false;
+}
+
+/* The arrivals of a whole fair settle, taken as steps: they leave the words that are in the copy. */
+static void print_settled_by_steps(void) {
+    struct wt_letter l;
+    uint8_t record[WT_RECORD_BYTES];
+    uint32_t last = wt_processes(world) - 1, answers = 0, steps = 0;
+    for (; next_in_turn(last, &l); last = l.to, steps++) {
+        then(&answers, wt_put_arrival(record, l.kind, l.message, l.from, l.to), record);
+    }
+    printf("fair settle as %u steps: refused %u, %s\n", (unsigned)steps, (unsigned)answers,
+           memcmp(world, after, sizeof world) == 0 ? "the same words" : "other words");
+}
+
+/* The office sends four messages to two mixers and a fifth to a silo store, and crashes; then the settles. */
+static void print_settles(void) {
+    const uint8_t groups[] = {0, 1, 1, 2};
+    uint8_t record[WT_RECORD_BYTES];
+    uint32_t m, answers = wt_put_setup(record, groups, 4);
+    answers += wt_world_make(world, WT_WORLD_WORDS, record, sizeof record);
+    for (m = 0; m < 5; m++) then(&answers, wt_put_multicast(record, 0, WT_GROUP(m < 4 ? 1 : 2)), record);
+    then(&answers, wt_put_crash(record, 0), record);
+    printf("refused: %u\n", (unsigned)answers);
+    print_settle("settle", wt_settle, 0);
+    print_settle("settle", wt_settle, 8);
+    print_settle("settle", wt_settle, WT_SETTLE_ALL);
+    print_settle("fair settle", wt_settle_fair, 0);
+    print_settle("fair settle", wt_settle_fair, 8);
+    print_settle("fair settle", wt_settle_fair, WT_SETTLE_ALL);
+    print_settled_by_steps();
+}
+
 int main(void) {
     print_version();
     print_sizes();
@@ -223,5 +280,6 @@ int main(void) {
     print_records();
     print_world();
     print_waiting();
+    print_settles();
     return 0;
 }

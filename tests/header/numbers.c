@@ -1,8 +1,8 @@
 /*
  * Numbers that have no place in a record. The functions that write records refuse them and leave no step: whoever
  * takes the record all the same is refused, and the world stays as it was, though a step stood in the record before.
- * And order numbers, previews, awaited messages and what came first, asked for and refused: what was lent stays as it
- * was.
+ * And order numbers, previews, awaited messages, what came first and settles, asked for and refused: what was lent
+ * stays as it was.
  */
 #include <stdio.h>
 #include <string.h>
@@ -164,6 +164,30 @@ static void print_pairs(void) {
     print_precedes("an odd length in no world", WT_WORLD_WORDS, pairs, 5, 2);
 }
 
+/* What both settles answered with budget 1, with so many words lent. */
+static void print_settles(const char *what, size_t words) {
+    uint32_t i;
+    memcpy(before, world, sizeof world);
+    for (i = 0; i < 2; i++) {
+        uint32_t arrivals = 7, done = 8;
+        uint32_t answer = (i == 0 ? wt_settle : wt_settle_fair)(world, words, 1, &arrivals, &done);
+        printf("%s, %s: refusal %u, numbers %u %u, world %s\n", i == 0 ? "settle" : "fair settle", what,
+               (unsigned)answer, (unsigned)arrivals, (unsigned)done, state(before, world, sizeof world));
+        memcpy(world, before, sizeof world);
+    }
+}
+
+/* Settles of a world with letters in flight, and when the words are cut or those of no world. */
+static void print_settled(void) {
+    world[WT_PLACE_COUNT] = 2;
+    print_settles("one arrival", WT_WORLD_WORDS);
+    print_settles("a word too few", WT_WORLD_WORDS - 1);
+    print_settles("no words", 0);
+    world[WT_PLACE_COUNT] = WT_MESSAGES + 1;
+    print_settles("in no world", WT_WORLD_WORDS);
+    print_settles("in no world, a word too few", WT_WORLD_WORDS - 1);
+}
+
 static void print_setup(const char *what, const uint8_t *groups, size_t processes) {
     uint32_t put = wt_put_setup(used(), groups, processes);
     printf("%s: refusal %u, made all the same: refusal %u\n", what, (unsigned)put,
@@ -203,6 +227,7 @@ int main(void) {
     print_orders();
     print_awaiteds();
     print_pairs();
+    print_settled();
     print_setup("setup 0 8", wrong, 2);
     print_setup("setup of 17", seventeen, 17);
     print_setup("setup of none", groups, 0);

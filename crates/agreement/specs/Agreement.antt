@@ -26,7 +26,7 @@ use Rattle.order.specs.Knowledge.{Knowledge, knowledge}
 use Rattle.order.specs.Counters.{To, of-to, of, to, both-less, Counting, sender-before, stamp-lt}
 use Rattle.order.specs.Runs.{Whole}
 use Rattle.order.specs.Cascade.{Fifo}
-use Rattle.agreement.specs.Letters.{Mark, Down, Told, is-done, from-down, to-down, flies}
+use Rattle.agreement.specs.Letters.{Mark, Down, Told, told-done}
 use Rattle.agreement.specs.Turns.{Vouched, vouched, Pending, delivered, not-in-turn, unmarked, Live}
 
 -- ---- the number of a message: one more than its sender's earlier ones to that group
@@ -102,10 +102,7 @@ module _ {r : Run State} (w : Whole r) (v : Live (is-up (r .now)) (r .now)) (cal
   -- so what one told another has been done
   heard : (x u : ℕ) {done flying : Type 0} → Up (r .now) x → Up (r .now) u → (¬ flying)
       → Told (Down (r .now) x) (Down (r .now) u) done flying → done
-  heard x u ux uu n (is-done d) = d
-  heard x u ux uu n (from-down d) = absurd (d (ux .1))
-  heard x u ux uu n (to-down d) = absurd (d (uu .1))
-  heard x u ux uu n (flies f) = absurd (n f)
+  heard x u ux uu n = told-done (λ d. d (ux .1)) (λ d. d (uu .1)) n
 
   -- if a live process holds m, every live addressee does
   spread : (m x u : ℕ) → m < r .now count → Up (r .now) x → Held (r .now) x m → Up (r .now) u

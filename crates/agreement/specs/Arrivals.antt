@@ -14,13 +14,14 @@ use Rattle.definitions.specs.General.{pick, In, in-at, bit, with}
 use Rattle.definitions.specs.World.{size, count, group, trust, up, fifo-length, next, held, marks, fifo, sender, mask, stamp, number, flight, State, put, addressed}
 use Rattle.definitions.specs.Machine.{with-tables, addressees, in-turn, raised, stamped, numbered, multicast, leave, mark, received, posted as post}
 use Rattle.definitions.specs.History.{Event}
-use Rattle.base.specs.Bits.{with-old, with-hit, with-cases, bit-mask-of}
+use Rattle.base.specs.Bits.{with-old, with-hit, with-cases}
 use Rattle.world.specs.Layout.{put-same, put-at}
 use Rattle.world.specs.SoundLaws.{Sound, size-high, letter-facts, held-facts, mark-facts, sender-low, fifo-exists}
 use Rattle.world.specs.StepLaws.{InFlight}
 use Rattle.world.specs.Kept.{mark-cases, hold-cases}
 use Rattle.effects.specs.Views.{messages, Process, process, Ground}
-use Rattle.effects.specs.Arrival.{Held, Fly, put-letter, leave-cases, marked-held, marked-flight, mark-process, mark-ground, received-process, received-ground, received-held}
+use Rattle.effects.specs.Arrival.{Held, Fly, put-letter, leave-cases, marked-held, mark-process, mark-ground, received-process, received-ground, received-held}
+use Rattle.effects.specs.Flying.{in-addressees, received-holds, received-flies}
 use Rattle.effects.specs.Holding.{sound-letter}
 use Rattle.effects.specs.Spent.{once-then, leave-once, mark-once, hold-once, multicast-once, marked-low}
 use Rattle.effects.specs.Cascade.{Near}
@@ -56,7 +57,7 @@ module _ (s : State) (k m q p : ℕ) where
       (λ _ _ _ z. z) r x
 
   -- an OK sets the mark of its origin
-  marked-hit : k ≡ 2 → Mark (received s k m q p) p m q
+  pub marked-hit : k ≡ 2 → Mark (received s k m q p) p m q
   marked-hit two =
       received-marks (λ r x v. p ≡ r → m ≡ x → bit v q ≡ true) (λ _ _ _. with-hit (s (marks p m)) q)
       (λ r x n d e. absurd (n two d e)) p m refl refl
@@ -73,11 +74,6 @@ module _ (s : State) (k m q p : ℕ) where
       (λ r x _ z. old r x o z) r x
 
 -- ---- an arrival, up to its cascade
--- every addressee is in the mask of addressees
-pub in-addressees : (s : State) (m u : ℕ) → u < s size → addressed s m u ≡ true
-    → bit (addressees s m) u ≡ true
-in-addressees s m u h a = bit-mask-of (s size) (addressed s m) u h ∙ a
-
 module _ (s : State) (k m q p : ℕ) (l : InFlight s k m q p) (sound : Sound s)
     (f : FifoLogOf (messages s) (process s p))
     (number-rank : s (number m (s (group p))) ≡ s (stamp m (s (group p)) (s (sender m)))) (n : Net s) where
@@ -104,30 +100,12 @@ module _ (s : State) (k m q p : ℕ) (l : InFlight s k m q p) (sound : Sound s)
       (ap₂ (λ (g : Ground) (o : Process). g .messages .number x (g .group r) ≤ o .next (g .messages .sender x))
       (received-ground s k m q p) (received-process s k m q p r))
 
-  -- p holds m
-  holds : Held (received s k m q p) p m
-  unfolding put
-  holds = hold-cases (λ t. Held t p m) t₁ p m (λ e. e) (λ _. put-same t₁ (held p m) (held p m) 1 refl)
-
   -- m is to all addressees
   to-all : (u : ℕ) → u < s size → addressed s m u ≡ true
       → bit (addressees (mark (leave s k m q p) k m q p) m) u ≡ true
   to-all u hu au =
       in-addressees t₁ m u (omega (arith, ap (λ (g : Ground). g .size) (mark-ground s k m q p)))
       (ap (λ (g : Ground). bit (g .messages .mask m) (g .group u)) (mark-ground s k m q p) ∙ au)
-
-  -- what has not left still flies to addressees
-  fly-on : (x j o u : ℕ) → u < s size → addressed s x u ≡ true → Fly (leave s k m q p) x j o u
-      → Fly (received s k m q p) x j o u
-  unfolding put
-  fly-on x j o u hu au z =
-      hold-cases (λ t. Fly t x j o u) t₁ p m (λ _. on)
-      (λ _. put-letter t₁ m (pick (in-turn t₁ p m) 2 1) p (addressees t₁ m)
-      (λ x j o v. addressed s x u ≡ true → Fly t₁ x j o u → bit v u ≡ true) (λ au _. to-all u hu au)
-      (λ _ _ _ _ f. f) x j o au on)
-    where
-      on : Fly (mark (leave s k m q p) k m q p) x j o u
-      on = rw (marked-flight s k m q p x j o) z
 
   -- p answers what is new to it, by a letter of kind 2 if it is in turn, else of kind 1
   module _ (new : s (held p m) ≢ 1) where
@@ -182,7 +160,8 @@ module _ (s : State) (k m q p : ℕ) (l : InFlight s k m q p) (sound : Sound s)
     down-on = λ r d e. d (sym (ap (λ (g : Ground). g .up r) (received-ground s k m q p)) ∙ e);
     flown = λ x j r u _ _ hu au z.
         leave-cases s k m q p (λ x j r u. u < s size → addressed s x u ≡ true → Flown t x j r u)
-        (λ _ _. landed holds (marked-hit s k m q p)) (λ x j r u w hu au. still (fly-on x j r u hu au w))
+        (λ _ _. landed (received-holds s k m q p) (marked-hit s k m q p))
+        (λ x j r u w hu au. still (received-flies s k m q p x j r u hu au w))
         x j r u z hu au;
     old-ok = λ x r u hx _ _ _. omega (arith, count-same);
     new-mark = λ x r u hx _ _ z.

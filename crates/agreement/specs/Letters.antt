@@ -30,6 +30,14 @@ pub data Told (r-down u-down done flying : Type 0) : Type 0 where
   to-down : u-down → Told r-down u-down done flying
   flies : flying → Told r-down u-down done flying
 
+-- with both ends up and no letter left it has been done
+pub told-done : {r-down u-down done flying : Type 0} → (¬ r-down) → (¬ u-down) → (¬ flying)
+    → Told r-down u-down done flying → done
+told-done r u f (is-done d) = d
+told-done r u f (from-down d) = absurd (r d)
+told-done r u f (to-down d) = absurd (u d)
+told-done r u f (flies d) = absurd (f d)
+
 -- ---- what holds after every list, of the messages and processes that there are
 pub record Net (s : State) : Type 0 where
   -- what is in a FIFO log is held

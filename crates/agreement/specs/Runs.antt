@@ -15,11 +15,12 @@ use Rattle.definitions.specs.World.{size, count, group, trust, up, causal-lengt
 use Rattle.definitions.specs.Setup.{fresh, made}
 use Rattle.definitions.specs.Machine.{with-tables, cascade, raised, stamped, numbered, posted, multicast, leave, received, arrival, trust-set, crash}
 use Rattle.definitions.specs.Steps.{Step, multicasts, arrives, loses, trusts, crashes, malformed, read, accepted, step}
-use Rattle.definitions.specs.Settle.{lowest}
+use Rattle.definitions.specs.Settle.{choice}
 use Rattle.definitions.specs.History.{Event, Run, Item, given, settling, taken, tick, settles, act, run, InForce, AllAlong}
 use Rattle.world.specs.Layout.{put-other}
 use Rattle.world.specs.SoundLaws.{size-high, held-facts}
-use Rattle.world.specs.StepLaws.{accepted-multicast, accepted-arrival, accepted-trust, lowest-moves, moves-taken}
+use Rattle.world.specs.StepLaws.{accepted-multicast, accepted-arrival, accepted-trust, moves-taken}
+use Rattle.world.specs.TurnLaws.{choice-moves}
 use Rattle.world.specs.SettleLaws.{settle-keeps}
 use Rattle.world.specs.Runs.{on-states}
 use Rattle.world.specs.Local.{received-local}
@@ -217,10 +218,10 @@ live-act live r (given bytes) w v f f′ = go (accepted (r .now) (read bytes)) r
         → Live live (pick b (taken on-states r (read bytes)) r .now)
     go true e f′ = live-step live (r .now) (r .seen) w v (read bytes) e f f′
     go false e f′ = v
-live-act live r (settling b) w v f f′ =
-    settle-keeps (λ t. lowest (t .now)) (λ t k m q p. taken on-states t (arrives k m q p)) (During live r)
-    (λ t k m q p e d. arrival-during live r t k m q p f
-    (moves-taken (t .now) k m q p (lowest-moves (t .now) k m q p e)) d) b 0 r
+live-act live r (settling o b) w v f f′ =
+    settle-keeps (λ x t. choice o x (t .now)) (λ t k m q p. taken on-states t (arrives k m q p)) (During live r)
+    (λ x t k m q p e d. arrival-during live r t k m q p f
+    (moves-taken (t .now) k m q p (choice-moves o x (t .now) k m q p e)) d) b 0 0 r
     (record { whole = w; lives = v; ground-is = refl }) .lives
 
 -- the trust sets are in force where a list begins, and where it ends

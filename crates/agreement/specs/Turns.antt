@@ -24,10 +24,10 @@ use Rattle.effects.specs.Cascade.{Near, turn-near, Front, fifo-one-front, next-
 use Rattle.effects.specs.Holding.{HeldTo}
 use Rattle.effects.specs.Spent.{turn-once}
 use Rattle.effects.specs.Arrival.{Held, Fly}
+use Rattle.effects.specs.Flying.{in-addressees}
 use Rattle.order.specs.Logs.{item-cases}
 use Rattle.order.specs.Cascade.{Fifo, MeaningOf, Ready, ready-facts, Cascading, cascading-more}
 use Rattle.agreement.specs.Letters.{Mark, Net, still, ToAll, Progress, net-progress}
-use Rattle.agreement.specs.Arrivals.{in-addressees}
 
 -- ---- a turn of the cascade
 module _ (t : State) (p m : ℕ) (y : Ready t p m) (es : List Event) (o : MeaningOf t es) where
@@ -143,7 +143,7 @@ abbrev pub Trusted : (ℕ → Bool) → State → Type 0
 Trusted live s = (p : ℕ) → TrustedAt live (place s p)
 
 -- a ready message has the marks of all that its process trusts
-ready-marks : (s : State) (p m : ℕ) → Ready s p m → (q : ℕ) → q < s size → bit (s (trust p)) q ≡ true
+pub ready-marks : (s : State) (p m : ℕ) → Ready s p m → (q : ℕ) → q < s size → bit (s (trust p)) q ≡ true
     → addressed s m q ≡ true
     → Mark s p m q
 ready-marks s p m y q h b a =

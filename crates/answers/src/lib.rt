@@ -45,5 +45,5 @@ pub fn outcome(x: Outcome) -> u32
 pub fn of_version() -> u32
     ensures { λ n. ⌜ n ≡ version ⌝ }
 {
-    9005000
+    9006000
 }

@@ -1,9 +1,9 @@
 -- An arrival in two parts, with the index: the letter and its mark, and then what may follow. Where letters were sent is
--- told as a place, 48 m + 16 k + q, below which none was. Assumes nothing.
+-- told as the set of their messages, or as a place, 48 m + 16 k + q, below which none was. Assumes nothing.
 use mathlib.Core.Path.{_≡_, refl, sym, ap, ap₂, _∙_, subst}
 use mathlib.Core.Bool.{Bool, true, false}
 use mathlib.Core.List.{List, []}
-use mathlib.Core.Logic.{_≢_, inl, inr}
+use mathlib.Core.Logic.{_≢_, _⊎_, inl, inr}
 use Prim.Native.Nat.{ℕ, _+_, _*_, _≤_, _<_}
 use native.Mathlib.Omega.{arith}
 use native.Mathlib.Decide.{ℕ-discrete}
@@ -11,8 +11,8 @@ use lib.Dec.{ltb, eqb}
 use lib.ListN.{length, set}
 use borrow.Author.Tests.{lt-ltb, ltb-true, eq-eqb}
 use Rattle.definitions.specs.General.{pick, bit, with, every}
-use Rattle.base.specs.Tests.{both, clash}
-use Rattle.base.specs.Bits.{bit-zero, with-hit, with-other}
+use Rattle.base.specs.Tests.{bool-cases, both, clash}
+use Rattle.base.specs.Bits.{bit-zero, with-old, with-hit, with-other}
 use Rattle.base.specs.Search.{first-law}
 use Rattle.sets.specs.Lowest.{lowest}
 use Rattle.bounds.specs.Bounds.{Bounds, bounds-words}
@@ -20,7 +20,7 @@ use Rattle.index.specs.Index.{Index, Logs, index-words, logs-words}
 use Rattle.cascade.specs.Ready.{Ready}
 use Rattle.sends.specs.Ready.{ready-words, ready-law}
 use Rattle.receiving.specs.Receiving.{bounds-marked}
-use Rattle.arrivals.specs.Hold.{hold-held}
+use Rattle.arrivals.specs.Hold.{hold-held, bounds-hold}
 use Rattle.quiescence.specs.Quiescent.{Quiescent, QuiescentIf, OnlyReady, a-letter, cascade-fixed, cascade-none, received-quiescent, ready-same, put-same-test}
 use Rattle.world.specs.Kept.{mark-cases, hold-cases, marked-keeps}
 use Rattle.world.specs.Layout.{put-other, get-encode, reads-cell, changes-put, changes-own, Changes}
@@ -62,6 +62,70 @@ cascade-silent s p set r h l x j o hx hj ho k = go (ℕ-discrete j 2) (ℕ-discr
         ∙ h x hx (first-law 64 0 (bit set) .miss x (omega arith) (omega arith))
         ∙ sym (ap₂ (λ (a b : ℕ). s (flight x a b)) d e)
 
+-- ---- which letters may stand anew: answers and OKs from p, of the messages of a set
+abbrev pub Posts : State → State → ℕ → ℕ → Type 0
+Posts s t p sent =
+    (x j o : ℕ) → x < 64 → j < 3 → o < 16 → (j ≢ 0 → o ≡ p → bit sent x ≡ false) → t (flight x j o) ≡ s (flight x j o)
+
+-- a message held: it is answered, or nothing is sent
+pub hold-posts : (s : State) (p m sent : ℕ) → (bit sent m ≡ false → Silent s (hold s p m) 3072) → Posts s (hold s p m) p sent
+unfolding put
+hold-posts s p m sent h x j o hx hj ho f = go (bit sent m) refl
+  where
+    kind : (b : Bool) → _≢_ {A = ℕ} (pick b 2 1) 0
+    kind true e = omega arith
+    kind false e = omega arith
+
+    go : (b : Bool) → bit sent m ≡ b → hold s p m (flight x j o) ≡ s (flight x j o)
+    go false e = h e x j o hx hj ho (omega arith)
+    go true e =
+        hold-cases (λ t. t (flight x j o) ≡ s (flight x j o)) s p m (λ _. refl)
+        (λ _. put-other s (flight m (pick (in-turn s p m) 2 1) p) (flight x j o) _
+        (λ z. let em : m ≡ x = cc in let ej : pick (in-turn s p m) 2 1 ≡ j = cc in let eo : p ≡ o = cc in
+        clash e (ap (bit sent) em ∙ f (λ y. kind (in-turn s p m) (ej ∙ y)) (sym eo))))
+
+-- a cascade: only OKs
+pub cascade-posts : (s : State) (p sent : ℕ)
+    → ((k : ℕ) → k < 64 → bit sent k ≡ false → cascade s p (flight k 2 p) ≡ s (flight k 2 p))
+    → Posts s (cascade s p) p sent
+cascade-posts s p sent h x j o hx hj ho f = go (ℕ-discrete j 2) (ℕ-discrete o p)
+  where
+    go : Dec (j ≡ 2) → Dec (o ≡ p) → cascade s p (flight x j o) ≡ s (flight x j o)
+    go (no d) e = cascade-fixed p s (flight x j o) (a-letter x j o (inl d))
+    go (yes d) (no e) = cascade-fixed p s (flight x j o) (a-letter x j o (inr e))
+    go (yes d) (yes e) =
+        ap₂ (λ (y z : ℕ). cascade s p (flight x y z)) d e
+        ∙ h x hx (f (λ z. omega arith) e)
+        ∙ sym (ap₂ (λ (y z : ℕ). s (flight x y z)) d e)
+
+-- one after the other; of a greater set; seen in words
+pub posts-both : (s t u : State) (p sent : ℕ) → Posts s t p sent → Posts t u p sent → Posts s u p sent
+posts-both s t u p sent f g x j o hx hj ho h = g x j o hx hj ho h ∙ f x j o hx hj ho h
+
+pub posts-more : (s t : State) (p a b : ℕ) → ((x : ℕ) → bit b x ≡ false → bit a x ≡ false) → Posts s t p a → Posts s t p b
+posts-more s t p a b h f x j o hx hj ho g = f x j o hx hj ho (λ y z. h x (g y z))
+
+pub posts-words : (s t : State) (u : List ℕ) (p sent : ℕ) → u ≡ encode t → Posts s t p sent → Posts s (view u) p sent
+posts-words s t u p sent e f x j o hx hj ho h =
+    reads-cell u (flight x j o) (hx, hj, ho) t e ∙ f x j o hx hj ho h
+
+pub posts-from : (s t : State) (u : List ℕ) (p sent : ℕ) → u ≡ encode s → Posts (view u) t p sent → Posts s t p sent
+posts-from s t u p sent e f x j o hx hj ho h =
+    f x j o hx hj ho h ∙ reads-cell u (flight x j o) (hx, hj, ho) s e
+
+-- a set with m, if so: m is outside only if not, and what is outside was outside
+pub outside-not : (b : Bool) (oks m : ℕ) {sent : ℕ} → sent ≡ pick b (with oks m) oks → bit sent m ≡ false → b ≡ false
+outside-not true oks m e h = clash (with-hit oks m) (sym (ap (λ (n : ℕ). bit n m) e) ∙ h)
+outside-not false oks m e h = refl
+
+pub outside-before : (b : Bool) (oks m : ℕ) {sent : ℕ} → sent ≡ pick b (with oks m) oks
+    → (x : ℕ) → bit sent x ≡ false → bit oks x ≡ false
+outside-before false oks m e x h = sym (ap (λ (n : ℕ). bit n x) e) ∙ h
+outside-before true oks m e x h = elim (bool-cases (bit oks x)) [
+  | inr z ↦ z
+  | inl z ↦ clash (with-old oks m x z) (sym (ap (λ (n : ℕ). bit n x) e) ∙ h)
+]
+
 -- ---- a process that is quiescent in s is so in the words of s
 pub quiescent-words : (s : State) (p : ℕ) → Bounds s → p < 16 → Quiescent s p → Quiescent (view (encode s)) p
 quiescent-words s p h hp a m l =
@@ -72,6 +136,12 @@ quiescent-words s p h hp a m l =
 abbrev pub OnlyIf : Bool → State → ℕ → ℕ → Type 0
 OnlyIf true s p m = OnlyReady s p m
 OnlyIf false s p m = Unit {0}
+
+-- what the rest of an arrival leans on
+abbrev pub Leans : List ℕ → List ℕ → ℕ → ℕ → Bool → Type 0
+Leans w x p m only =
+    (length w ≡ 20480) × (p < 16) × (m < view w count) × Bounds (view w) × Index (view w) x × Logs (view w) p
+    × OnlyIf only (view w) p m
 
 only-is : (b : Bool) (s : State) (p m : ℕ) → b ≡ true → OnlyIf b s p m → OnlyReady s p m
 only-is true s p m e h = h
@@ -183,6 +253,29 @@ module _ (s : State) (x : List ℕ) (k m q p : ℕ) where
   unfolding put
   hold-logs z = hold-cases (λ t. Logs t p) s p m (λ _. z) (λ _. z)
 
+-- ---- with the message held the rest leans on the same
+module _ (w u x : List ℕ) (p m : ℕ) (only : Bool) (h : Leans w x p m only) (l : length u ≡ 20480)
+    (c : Changes w u (λ s. hold s p m)) where
+  abbrev s : State
+  s = hold (view w) p m
+
+  pub held-state : u ≡ encode (hold (view w) p m)
+  held-state = changes-own w u (λ s. hold s p m) (h .0) c
+
+  bounds-s : Bounds (hold (view w) p m)
+  bounds-s = bounds-hold (view w) p m (h .3)
+
+  pub held-leans : Leans u x p m only
+  held-leans = (
+    l,
+    h .1,
+    omega (arith, h .2, reads-cell u count tt s held-state, hold-number (view w) p m),
+    bounds-words u s held-state bounds-s,
+    index-words u s held-state bounds-s (hold-index (view w) x 0 m 0 p (h .4)),
+    logs-words u s held-state bounds-s p (h .1) (hold-logs (view w) x 0 m 0 p (h .5)),
+    only-words only u s p m held-state bounds-s (bounds-words u s held-state bounds-s) (h .1) (only-hold only (view w) p m (h .6)),
+  )
+
 -- ---- the words with the message held
 module _ (w : List ℕ) (p m : ℕ) (l : length w ≡ 20480) (hp : p < 16) (hm : m < 64) where
   abbrev with-held : List ℕ
@@ -235,6 +328,9 @@ module _ (w u : List ℕ) (k m q p : ℕ) (l : length w ≡ 20480) (h : Bounds (
   silent-marked t r f x j o hx hj ho l =
       f x j o hx hj ho l
       ∙ reads-cell u (flight x j o) (hx, hj, ho) (marked-of (view w) k m q p) marked-state
+
+  pub posts-marked : (t : State) (sent : ℕ) → Posts (view u) t p sent → Posts (marked-of (view w) k m q p) t p sent
+  posts-marked t sent = posts-from (marked-of (view w) k m q p) t u p sent marked-state
 
   -- nothing follows
   pub over : (b : Bool) → p < 16 → m < 64 → QuiescentIf b (view w) p → b ≡ true → view u (held p m) ≡ 1
@@ -295,8 +391,7 @@ module _ (w u x : List ℕ) (k m q p : ℕ) (b : Bool) (h : Arrives w x k m q p 
     silent = silent-marked w u k m q p (h .long) (h .bounds) c (view v) r f;
   }
 
-  pub follows : (length u ≡ 20480) × (p < 16) × (m < view u count) × Bounds (view u) × Index (view u) x × Logs (view u) p
-      × OnlyIf b (view u) p m
+  pub follows : Leans u x p m b
   follows = (
     l,
     h .to,

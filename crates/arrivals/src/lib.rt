@@ -12,7 +12,7 @@ ghost use Rattle.cascade.specs.Ready.{Ready};
 ghost use Rattle.definitions.specs.Machine.{marked, cascade, hold};
 ghost use Rattle.definitions.specs.World.{view, size, count, held};
 ghost use Rattle.world.specs.Layout.{Changes};
-ghost use Rattle.arrivals.specs.Arrival.{Silent, OnlyIf, marked-of, Arrives, Arrived};
+ghost use Rattle.arrivals.specs.Arrival.{Leans, Silent, Posts, OnlyIf, marked-of, Arrives, Arrived};
 
 // A place past all places.
 pub const NOWHERE: usize = 3072;
@@ -88,7 +88,7 @@ fn least(a: usize, b: usize) -> usize
 
 // The rest of an arrival. A place below which it sent no letter.
 pub fn follow(w: &mut [u16], x: &mut [u64], m: usize, p: usize, only: bool) -> usize
-    requires { ⌜ (length (now w) ≡ 20480) × (p < 16) × (m < view (now w) count) × Bounds (view (now w)) × Index (view (now w)) (now x) × Logs (view (now w)) p × OnlyIf only (view (now w)) p m ⌝ }
+    requires { ⌜ Leans (now w) (now x) p m only ⌝ }
     ensures words { λ _. ⌜ (length (now (w .exit)) ≡ 20480) × Changes (now (w .entry)) (now (w .exit)) (λ s. cascade (hold s p m) p) ⌝ }
     ensures index { λ _. ⌜ Index (view (now (w .exit))) (now (x .exit)) × Logs (view (now (w .exit))) p ⌝ }
     ensures place { λ r. ⌜ Silent (view (now (w .entry))) (view (now (w .exit))) r ⌝ }
@@ -100,6 +100,22 @@ pub fn follow(w: &mut [u16], x: &mut [u64], m: usize, p: usize, only: bool) -> u
     }
     let sent = cascade::cascade(w, x, p, ready);
     least(at, sets::lowest(sent) * 48 + 32 + p)
+}
+
+// The rest of an arrival. The messages with an answer or an OK: no other letter was sent, and none but from p.
+pub fn post(w: &mut [u16], x: &mut [u64], m: usize, p: usize, only: bool) -> u64
+    requires { ⌜ Leans (now w) (now x) p m only ⌝ }
+    ensures words { λ _. ⌜ (length (now (w .exit)) ≡ 20480) × Changes (now (w .entry)) (now (w .exit)) (λ s. cascade (hold s p m) p) ⌝ }
+    ensures index { λ _. ⌜ Index (view (now (w .exit))) (now (x .exit)) × Logs (view (now (w .exit))) p ⌝ }
+    ensures sent { λ r. ⌜ Posts (view (now (w .entry))) (view (now (w .exit))) p r ⌝ }
+{
+    let at = take_hold(w, x, m, p);
+    let ready = ready_now(w, x, p, m, only);
+    if ready == 0 {
+        return sets::join_if(0, m, at < NOWHERE);
+    }
+    let oks = cascade::cascade(w, x, p, ready);
+    sets::join_if(oks, m, at < NOWHERE)
 }
 
 // The whole arrival. A place below which it sent no letter.

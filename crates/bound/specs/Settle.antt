@@ -1,6 +1,7 @@
 -- Settle ends: each arrival lowers the potential, so a settle makes at most as many arrivals as the
 -- potential, and with a budget of at least that it says done. For any choice of the next letter that names
--- only letters that can move, and names nothing only where none can; the lowest letter is one. Assumes nothing.
+-- only letters that can move, and names nothing only where none can; both manners have such a choice. Assumes
+-- nothing.
 use mathlib.Core.Path.{_≡_, refl, ap}
 use mathlib.Core.List.{List}
 use Prim.Native.Nat.{ℕ, zero, suc, _+_, _*_, _≤_, _<_}
@@ -10,10 +11,11 @@ use Rattle.definitions.specs.World.{count, State, put}
 use Rattle.definitions.specs.Setup.{setup-refusal}
 use Rattle.definitions.specs.Machine.{leave, arrival}
 use Rattle.definitions.specs.Steps.{arrives, step}
-use Rattle.definitions.specs.Settle.{Choice, letter, nothing, lowest, Ending, done, stopped, Settled, settle-from}
+use Rattle.definitions.specs.Settle.{Choice, letter, nothing, Manner, choice, Ending, done, stopped, Settled, settle-from}
 use Rattle.definitions.specs.History.{Item, run}
 use Rattle.world.specs.SoundLaws.{Sound}
-use Rattle.world.specs.StepLaws.{Arrives, Chosen, lowest-chosen, moves-taken}
+use Rattle.world.specs.StepLaws.{Arrives, Chosen, moves-taken}
+use Rattle.world.specs.TurnLaws.{choice-chosen}
 use Rattle.world.specs.SettleLaws.{settle, goes-on}
 use Rattle.world.specs.Runs.{on-states, started}
 use Rattle.keeps.specs.Keeps.{step-sound, reached-sound}
@@ -34,7 +36,7 @@ abbrev pub SaysDone : Ending → Type 0
 SaysDone e = e ≡ done (arrivals e)
 
 -- ---- any settle
-module _ {S : Type 0} (choose : S → Choice) (arrive : S → ℕ → ℕ → ℕ → ℕ → S) (P : S → Type 0)
+module _ {S : Type 0} (choose : ℕ → S → Choice) (arrive : S → ℕ → ℕ → ℕ → ℕ → S) (P : S → Type 0)
     (left : S → ℕ) where
   -- what is kept, how many arrivals, and the end
   pub record Ended (b n : ℕ) (s : S) (u : Settled S) : Type 0 where
@@ -47,34 +49,38 @@ module _ {S : Type 0} (choose : S → Choice) (arrive : S → ℕ → ℕ → �
     pub keeps : P t
     pub lowers : left t < left s
 
-  module _ (turn : (s : S) (k m q p : ℕ) → choose s ≡ letter k m q p → P s → Falls s (arrive s k m q p)) where
-    pub settle-ends : (b n : ℕ) (s : S) → P s → Ended b n s (settle-from choose arrive b n s)
-    unfolding settle-from
-    settle-ends zero n s p = go (choose s) refl
-      where
-        go : (c : Choice) → choose s ≡ c
-            → Ended 0 n s (goes-on c (λ k m q p. record { world = s; ending = stopped n }) s n)
-        go (letter k m q r) e = record {
-          kept = p;
-          few = omega arith;
-          finishes = λ h. let f = turn s k m q r e p .lowers in absurd (omega arith);
-        }
-        go nothing e = record { kept = p; few = omega arith; finishes = λ h. refl }
-    settle-ends (suc b) n s p = go (choose s) refl (λ k m q r z. settle-ends b (n + 1) (arrive s k m q r) z)
-      where
-        go : (c : Choice) → choose s ≡ c
-            → ((k m q r : ℕ) → P (arrive s k m q r)
-            → Ended b (n + 1) (arrive s k m q r) (settle-from choose arrive b (n + 1) (arrive s k m q r)))
-            → Ended (suc b) n s (goes-on c (λ k m q r. settle-from choose arrive b (n + 1) (arrive s k m q r)) s n)
-        go (letter k m q r) e ih =
-            let f = turn s k m q r e p in
-            let i = ih k m q r (f .keeps) in
-            record {
-              kept = i .kept;
-              few = omega (arith, i .few, f .lowers);
-              finishes = λ h. i .finishes (omega (arith, f .lowers));
-            }
-        go nothing e ih = record { kept = p; few = omega arith; finishes = λ h. refl }
+  module _ (turn : (x : ℕ) (s : S) (k m q p : ℕ) → choose x s ≡ letter k m q p → P s → Falls s (arrive s k m q p))
+    where
+      pub settle-ends : (b n x : ℕ) (s : S) → P s → Ended b n s (settle-from choose arrive b n x s)
+      unfolding settle-from
+      settle-ends zero n x s p = go (choose x s) refl
+        where
+          go : (c : Choice) → choose x s ≡ c
+              → Ended 0 n s (goes-on c (λ k m q p. record { world = s; ending = stopped n }) s n)
+          go (letter k m q r) e = record {
+            kept = p;
+            few = omega arith;
+            finishes = λ h. let f = turn x s k m q r e p .lowers in absurd (omega arith);
+          }
+          go nothing e = record { kept = p; few = omega arith; finishes = λ h. refl }
+      settle-ends (suc b) n x s p =
+          go (choose x s) refl (λ k m q r z. settle-ends b (n + 1) (r + 1) (arrive s k m q r) z)
+        where
+          more : ℕ → ℕ → ℕ → ℕ → Settled S
+          more k m q r = settle-from choose arrive b (n + 1) (r + 1) (arrive s k m q r)
+
+          go : (c : Choice) → choose x s ≡ c
+              → ((k m q r : ℕ) → P (arrive s k m q r) → Ended b (n + 1) (arrive s k m q r) (more k m q r))
+              → Ended (suc b) n s (goes-on c more s n)
+          go (letter k m q r) e ih =
+              let f = turn x s k m q r e p in
+              let i = ih k m q r (f .keeps) in
+              record {
+                kept = i .kept;
+                few = omega (arith, i .few, f .lowers);
+                finishes = λ h. i .finishes (omega (arith, f .lowers));
+              }
+          go nothing e ih = record { kept = p; few = omega arith; finishes = λ h. refl }
 
 -- ---- a letter that can move, of a sound world
 module _ (s : State) (k m q p : ℕ) (h : Sound s) (a : Arrives s k m q p) where
@@ -101,33 +107,33 @@ module _ (s : State) (k m q p : ℕ) (h : Sound s) (a : Arrives s k m q p) where
       ))
 
 -- ---- settle on a sound world, with any such choice
-module _ (choose : State → Choice) (good : (s : State) → Chosen s (choose s)) where
+module _ (choose : ℕ → State → Choice) (good : (x : ℕ) (s : State) → Chosen s (choose x s)) where
   pub choice-ends : (s : State) (b : ℕ) → Sound s
-      → Ended choose arrival Sound potential b 0 s (settle-from choose arrival b 0 s)
+      → Ended choose arrival Sound potential b 0 s (settle-from choose arrival b 0 0 s)
   choice-ends s b h =
       settle-ends choose arrival Sound potential
-      (λ t k m q p e z. moved t k m q p (rw e at (good t)) z) b 0 s h
+      (λ x t k m q p e z. moved t k m q p (rw e at (good x t)) z) b 0 0 s h
     where
       moved : (t : State) (k m q p : ℕ) → Arrives t k m q p → Sound t
           → Falls choose arrival Sound potential t (arrival t k m q p)
       moved t k m q p a z = record { keeps = sound-arrival t k m q p z a; lowers = moved-falls t k m q p z a }
 
--- ---- the theorems
-module _ (s : State) (b : ℕ) (h : Sound s) where
-  ended : Ended lowest arrival Sound potential b 0 s (settle s b)
+-- ---- the theorems, of both manners
+module _ (o : Manner) (s : State) (b : ℕ) (h : Sound s) where
+  ended : Ended (choice o) arrival Sound potential b 0 s (settle o s b)
   unfolding settle
-  ended = choice-ends lowest lowest-chosen s b h
+  ended = choice-ends (choice o) (choice-chosen o) s b h
 
   -- a settle of any sound world makes at most the sum of A + 4 × A × A arrivals, and says done with such a
   -- budget
-  pub sound-settle-bound : arrivals (settle s b .ending)
+  pub sound-settle-bound : arrivals (settle o s b .ending)
       ≤ sum (s count) (λ m. addressee-count s m + 4 * (addressee-count s m * addressee-count s m))
   sound-settle-bound = omega (arith, ended .few, sound-potential s h)
 
   -- with that budget it says done
   pub sound-settle-done : sum (s count)
       (λ m. addressee-count s m + 4 * (addressee-count s m * addressee-count s m)) ≤ b
-      → SaysDone (settle s b .ending)
+      → SaysDone (settle o s b .ending)
   sound-settle-done l = ended .finishes (omega (arith, sound-potential s h))
 
 -- of a reached world at most the sum of A + 2 × A × A
@@ -151,17 +157,16 @@ module _ (setup : List ℕ) (items : List Item) (ok : setup-refusal setup ≡ 0)
   reached-low = omega (arith, few, ceiling-most end sound-end)
 
   -- the bound of document 01
-  pub reached-settle-bound : (b : ℕ) → arrivals (settle (run on-states (started setup) items .now) b .ending)
-      ≤ sum (run on-states (started setup) items .now count)
-      (λ m. ceiling (addressee-count (run on-states (started setup) items .now) m))
-  reached-settle-bound b = omega (arith, ended end b sound-end .few, few)
+  pub reached-settle-bound : (o : Manner) (b : ℕ) → arrivals (settle o end b .ending)
+      ≤ sum (end count) (λ m. ceiling (addressee-count end m))
+  reached-settle-bound o b = omega (arith, ended o end b sound-end .few, few)
 
   -- so at most 33,792
-  pub reached-settle-most : (b : ℕ)
-      → arrivals (settle (run on-states (started setup) items .now) b .ending) ≤ 33792
-  reached-settle-most b = omega (arith, ended end b sound-end .few, reached-low)
+  pub reached-settle-most : (o : Manner) (b : ℕ)
+      → arrivals (settle o (run on-states (started setup) items .now) b .ending) ≤ 33792
+  reached-settle-most o b = omega (arith, ended o end b sound-end .few, reached-low)
 
   -- a settle with at least 33,792 arrivals says done, without the trust rule
-  pub reached-settle-done : (b : ℕ) → 33792 ≤ b
-      → SaysDone (settle (run on-states (started setup) items .now) b .ending)
-  reached-settle-done b l = ended end b sound-end .finishes (omega (arith, reached-low))
+  pub reached-settle-done : (o : Manner) (b : ℕ) → 33792 ≤ b
+      → SaysDone (settle o (run on-states (started setup) items .now) b .ending)
+  reached-settle-done o b l = ended o end b sound-end .finishes (omega (arith, reached-low))

@@ -7,6 +7,7 @@ use definitions::Settling;
 ghost use mathlib.Core.Path.{_≡_};
 ghost use lib.ListN.{length};
 ghost use Rattle.definitions.specs.World.{view};
+ghost use Rattle.definitions.specs.Settle.{lowest-first, by-turns};
 ghost use Rattle.definitions.specs.Words.{needs-world, step-refusal, stepped-words, previewed-words, preview-reply, settle-reply, settled-words};
 ghost use Rattle.index.specs.Index.{Index};
 ghost use Rattle.definitions.specs.Answers.{outcome-number, previewing-reply, settling-reply};
@@ -56,12 +57,25 @@ pub fn preview(w: &[u16], bytes: &[u8], second: &mut [u16]) -> Previewing
 
 // Makes at most `budget` arrivals, each of the lowest letter to an up process: 1, then 2.
 pub fn settle(w: &mut [u16], budget: u32) -> Settling
-    ensures answer { λ r. ⌜ settling-reply r ≡ settle-reply (now (w .entry)) budget ⌝ }
-    ensures words { λ _. ⌜ now (w .exit) ≡ settled-words (now (w .entry)) budget ⌝ }
+    ensures answer { λ r. ⌜ settling-reply r ≡ settle-reply lowest-first (now (w .entry)) budget ⌝ }
+    ensures words { λ _. ⌜ now (w .exit) ≡ settled-words lowest-first (now (w .entry)) budget ⌝ }
 {
     let mut x = [0u64; 112];
     if let Outcome::Refused(r) = indexed(w, &mut x) {
         return Settling::Refused(r);
     }
     settling::settle_sound(w, &mut x, budget)
+}
+
+// Makes at most `budget` arrivals, the processes served in turn, each with the lowest letter to it: 1, then 2.
+pub fn settle_fair(w: &mut [u16], budget: u32) -> Settling
+    ensures answer { λ r. ⌜ settling-reply r ≡ settle-reply by-turns (now (w .entry)) budget ⌝ }
+    ensures words { λ _. ⌜ now (w .exit) ≡ settled-words by-turns (now (w .entry)) budget ⌝ }
+{
+    let mut x = [0u64; 112];
+    if let Outcome::Refused(r) = indexed(w, &mut x) {
+        return Settling::Refused(r);
+    }
+    let mut a = [0u64; 1041];
+    serving::serve(w, &mut x, &mut a, budget)
 }

@@ -1,10 +1,10 @@
 -- What the calls give on the words of a sound state: the refusals, the steps and the logs are the state's. What is
 -- read off those words agrees with the state on the layout (Same), which is all that the refusals, the steps and
--- the choice of the lowest letter look at. Assumes nothing.
+-- the choice of a letter look at. Assumes nothing.
 use mathlib.Core.Path.{_≡_, refl, sym, ap, ap₂, _∙_}
 use mathlib.Core.Bool.{Bool, true, false, not, _&&_}
 use mathlib.Core.List.{List, []}
-use Prim.Native.Nat.{ℕ, _^_, _<_}
+use Prim.Native.Nat.{ℕ, _-_, _^_, _<_}
 use native.Mathlib.Omega.{arith}
 use lib.Dec.{ltb, eqb}
 use lib.ListN.{length, take, drop, getD}
@@ -13,7 +13,7 @@ use Rattle.definitions.specs.General.{pick, needs, first-from, some, bit, tabul
 use Rattle.definitions.specs.World.{Cell, size, count, rule, group, trust, counter, sequence, next, delivered, up, fifo-length, causal-length, held, marks, fifo, causal, sender, mask, stamp, number, flight, order, unused, State, encode, view, addr, has-group, is-process}
 use Rattle.definitions.specs.Setup.{setup-refusal, made}
 use Rattle.definitions.specs.Steps.{Step, multicasts, arrives, loses, trusts, crashes, malformed, read, good-mask, is-up, in-flight, refusal, accepted, step, after}
-use Rattle.definitions.specs.Settle.{Choice, letter, nothing, moves, receiver, origin, kind, movable, letter-of, lowest}
+use Rattle.definitions.specs.Settle.{Choice, letter, nothing, moves, receiver, origin, kind, movable, letter-of, lowest, origin-to, kind-to, message-to, letter-to, has-letter, served, fair, Manner, lowest-first, by-turns, choice}
 use Rattle.definitions.specs.Words.{needs-world, making-refusal, made-words, step-refusal, stepped-words, log-length, log-start, log-refusal, log-words}
 use Rattle.base.specs.Tests.{both-l, both-r}
 use Rattle.base.specs.Search.{first-law, first-cong, some-cong}
@@ -23,6 +23,7 @@ use Rattle.world.specs.Layout.{Within, get-encode, encode-ext, part-encode}
 use Rattle.world.specs.SoundLaws.{Sound, size-high, count-high, group-high, sender-high, fifo-length-high, causal-length-high, fifo-high}
 use Rattle.world.specs.Calls.{refused-same}
 use Rattle.world.specs.StepLaws.{accepted-multicast, accepted-arrival, accepted-loss, accepted-trust}
+use Rattle.world.specs.TurnLaws.{Turn, ahead, around, nobody, turn-law}
 use Rattle.keeps.specs.Keeps.{sound-words-taken, encoded}
 use Rattle.effects.specs.Logs.{log-item, encoded-length}
 use Rattle.carried.specs.Same.{Fits, Agree, same, process-low, message-low, leave-agree, arrival-agree, trust-agree, crash-agree, multicast-agree}
@@ -171,7 +172,7 @@ module _ {s t : State} (a : Agree s t) where
       ∙ ap (λ (j : ℕ). letter j m (origin t m j) (receiver t m j (origin t m j))) (kind-agree m hm)
 
   -- the lowest letter
-  pub lowest-agree : lowest s ≡ lowest t
+  lowest-agree : lowest s ≡ lowest t
   unfolding lowest movable
   lowest-agree =
       go (ltb low (s count)) refl
@@ -200,6 +201,80 @@ module _ {s t : State} (a : Agree s t) where
           let l = ltb-true low (s count) e in
           letter-agree low l (first-law (s count) 0 (movable s) .hit (omega arith))
       go false e = refl
+
+  -- ---- by turns
+  module _ (p : ℕ) (hp : p < s size) where
+    -- the lowest sender of a letter to p
+    origin-to-agree : (m k : ℕ) → m < s count → k < 3 → origin-to s p m k ≡ origin-to t p m k
+    unfolding origin-to
+    origin-to-agree m k hm hk =
+        first-agree (λ q. moves s m k q p) (λ q. moves t m k q p) (λ q l. moves-agree m k q p hm hk l hp)
+
+    -- the lowest kind
+    kind-to-agree : (m : ℕ) → m < s count → kind-to s p m ≡ kind-to t p m
+    unfolding kind-to
+    kind-to-agree m hm =
+        first-cong 3 0 (λ k. ltb (origin-to s p m k) (s size)) (λ k. ltb (origin-to t p m k) (t size))
+        (λ k _ u. ap₂ ltb (origin-to-agree m k hm (omega arith)) (same a size tt))
+
+    -- the lowest message
+    message-to-agree : message-to s p ≡ message-to t p
+    unfolding message-to
+    message-to-agree =
+        first-cong (s count) 0 (λ m. ltb (kind-to s p m) 3) (λ m. ltb (kind-to t p m) 3)
+        (λ m _ u. ap (λ (k : ℕ). ltb k 3) (kind-to-agree m (omega arith)))
+        ∙ ap (λ (n : ℕ). first-from n 0 (λ m. ltb (kind-to t p m) 3)) (same a count tt)
+
+    -- whether p has a letter
+    has-letter-agree : has-letter s p ≡ has-letter t p
+    unfolding has-letter
+    has-letter-agree = ap₂ ltb message-to-agree (same a count tt)
+
+    -- its lowest
+    letter-to-agree : has-letter s p ≡ true → letter-to s p ≡ letter-to t p
+    unfolding letter-to has-letter message-to
+    letter-to-agree e =
+        let m : ℕ = message-to s p in
+        let hm = ltb-true m (s count) e in
+        let k : ℕ = kind-to s p m in
+        let hk = ltb-true k 3 (first-law (s count) 0 (λ m. ltb (kind-to s p m) 3) .hit (omega arith)) in
+        ap (λ (q : ℕ). letter k m q p) (origin-to-agree m k hm hk)
+        ∙ ap (λ (j : ℕ). letter j m (origin-to t p m j) p) (kind-to-agree m hm)
+        ∙ ap (λ (x : ℕ). letter (kind-to t p x) x (origin-to t p x (kind-to t p x)) p) message-to-agree
+
+  -- whose turn it is
+  turn-agree : (w : ℕ) → served s w ≡ served t w
+  unfolding served
+  turn-agree w =
+      ap₂ (λ (x y : ℕ). pick (ltb x (s size)) x y)
+      (first-cong (s size - w) w (has-letter s) (has-letter t) (λ p l u. has-letter-agree p (omega arith))
+      ∙ ap (λ (n : ℕ). first-from (n - w) w (has-letter t)) (same a size tt))
+      (first-agree (has-letter s) (has-letter t) has-letter-agree)
+      ∙ ap (λ (n : ℕ). pick (ltb (first-from (t size - w) w (has-letter t)) n)
+      (first-from (t size - w) w (has-letter t)) (first-from (t size) 0 (has-letter t))) (same a size tt)
+
+  -- the letter
+  fair-agree : (w : ℕ) → fair w s ≡ fair w t
+  unfolding fair
+  fair-agree w =
+      go (ltb (served s w) (s size)) refl (turn-law s w)
+      ∙ ap₂ (λ (x : ℕ) (b : Bool). elim b as (λ _. Choice) [
+        | true ↦ letter-to t x
+        | false ↦ nothing
+      ]) (turn-agree w) (ap₂ ltb (turn-agree w) (same a size tt))
+    where
+      go : (b : Bool) → ltb (served s w) (s size) ≡ b → Turn s w (served s w)
+          → _≡_ {A = Choice} (elim b [ true ↦ letter-to s (served s w) | false ↦ nothing ])
+          (elim b [ true ↦ letter-to t (served s w) | false ↦ nothing ])
+      go true e (ahead _ l z _) = letter-to-agree (served s w) l z
+      go true e (around l z _ _) = letter-to-agree (served s w) l z
+      go true e (nobody l _) = let h = ltb-true (served s w) (s size) e in absurd (omega arith)
+      go false e _ = refl
+
+  -- either choice
+  pub choice-agree : (o : Manner) (w : ℕ) → choice o w s ≡ choice o w t
+  choice-agree lowest-first w = lowest-agree
+  choice-agree by-turns w = fair-agree w
 
 -- ---- a sound state and its words
 -- a sound state fits the layout

@@ -11,18 +11,19 @@ use Rattle.definitions.specs.General.{pick, gives, reply}
 use Rattle.definitions.specs.World.{size, count, causal-length, causal, State, encode, view}
 use Rattle.definitions.specs.Setup.{setup-refusal, made}
 use Rattle.definitions.specs.Steps.{Step, multicasts, arrives, loses, trusts, crashes, malformed, read, accepted, step}
-use Rattle.definitions.specs.Settle.{lowest, Settled, settle-from}
+use Rattle.definitions.specs.Settle.{Settled, Manner, choice, settle-from}
 use Rattle.definitions.specs.History.{Event, sent, deliveries, grown, gained, casted, Engine, Run, Item, given, settling, taken, tick, settles, act, run}
 use Rattle.definitions.specs.Words.{making-refusal, made-words, settle-words, settled-words, settle-reply, on-words, started-words}
 use Rattle.base.specs.Refusals.{needs-none}
 use Rattle.world.specs.SoundLaws.{Sound, size-high}
-use Rattle.world.specs.StepLaws.{lowest-moves, moves-taken}
+use Rattle.world.specs.StepLaws.{moves-taken}
+use Rattle.world.specs.TurnLaws.{choice-moves}
 use Rattle.world.specs.SettleLaws.{settle, Alike, settle-related}
 use Rattle.world.specs.Runs.{on-states, started}
 use Rattle.keeps.specs.Keeps.{fresh-sound, step-sound, run-sound}
 use Rattle.effects.specs.Events.{deliveries-same}
 use Rattle.carried.specs.Same.{Agree, same}
-use Rattle.carried.specs.Calls.{view-agree, same-words, refusal-agree, step-agree, lowest-agree, sound-world}
+use Rattle.carried.specs.Calls.{view-agree, same-words, refusal-agree, step-agree, choice-agree, sound-world}
 
 -- ---- the events
 module _ {s s′ t t′ : State} (a : Agree s s′) (b : Agree t t′) where
@@ -92,68 +93,68 @@ pub record Carried (r : Run State) (t : Run (List ℕ)) : Type 0 where
   pub sound : Sound (r .now)
 
 -- the settle of a run, over states or over words
-abbrev pub settle-run : {S : Type 0} → Engine S → Run S → ℕ → Settled (Run S)
-settle-run e r b =
-    settle-from (λ t. lowest (e .reads (t .now))) (λ t k m q p. taken e t (arrives k m q p)) b 0 r
+abbrev pub settle-run : {S : Type 0} → Manner → Engine S → Run S → ℕ → Settled (Run S)
+settle-run o e r b =
+    settle-from (λ x t. choice o x (e .reads (t .now))) (λ t k m q p. taken e t (arrives k m q p)) b 0 0 r
 
-pub settle-related-runs : (r : Run State) (b : ℕ) → Sound (r .now)
-    → Alike Carried (settle-run on-states r b) (settle-run on-words (written r) b)
-settle-related-runs r b h =
-    settle-related (λ t. lowest (t .now)) (λ t k m q p. taken on-states t (arrives k m q p))
-    (λ t. lowest (view (t .now))) (λ t k m q p. taken on-words t (arrives k m q p)) Carried
-    (λ t u c. lowest-agree (view-agree (t .now) (c .sound))
-    ∙ ap (λ (v : Run (List ℕ)). lowest (view (v .now))) (sym (c .same)))
-    (λ t u k m q p c e.
-    let ok = moves-taken (t .now) k m q p (lowest-moves (t .now) k m q p e) in
+pub settle-related-runs : (o : Manner) (r : Run State) (b : ℕ) → Sound (r .now)
+    → Alike Carried (settle-run o on-states r b) (settle-run o on-words (written r) b)
+settle-related-runs o r b h =
+    settle-related (λ x t. choice o x (t .now)) (λ t k m q p. taken on-states t (arrives k m q p))
+    (λ x t. choice o x (view (t .now))) (λ t k m q p. taken on-words t (arrives k m q p)) Carried
+    (λ x t u c. choice-agree (view-agree (t .now) (c .sound)) o x
+    ∙ ap (λ (v : Run (List ℕ)). choice o x (view (v .now))) (sym (c .same)))
+    (λ x t u k m q p c e.
+    let ok = moves-taken (t .now) k m q p (choice-moves o x (t .now) k m q p e) in
     record {
       same = ap (λ (v : Run (List ℕ)). taken on-words v (arrives k m q p)) (c .same)
           ∙ taken-carried t (arrives k m q p) ok (c .sound);
       sound = step-sound (t .now) (arrives k m q p) ok (c .sound);
     })
-    b 0 r (written r) (record { same = refl; sound = h })
+    b 0 0 r (written r) (record { same = refl; sound = h })
 
 -- it is the settle of what there is now
-pub settle-now : {S : Type 0} (e : Engine S) (r : Run S) (b : ℕ)
-    → Alike (λ t s. t .now ≡ s) (settle-run e r b)
-    (settle-from (λ s. lowest (e .reads s)) (λ s k m q p. e .does s (arrives k m q p)) b 0 (r .now))
-settle-now {S} e r b =
-    settle-related (λ t. lowest (e .reads (t .now))) (λ t k m q p. taken e t (arrives k m q p))
-    (λ s. lowest (e .reads s)) (λ s k m q p. e .does s (arrives k m q p)) (λ t s. t .now ≡ s)
-    (λ t s d. ap (λ (u : S). lowest (e .reads u)) d)
-    (λ t s k m q p d _. ap (λ (u : S). e .does u (arrives k m q p)) d) b 0 r (r .now) refl
+pub settle-now : {S : Type 0} (o : Manner) (e : Engine S) (r : Run S) (b : ℕ)
+    → Alike (λ t s. t .now ≡ s) (settle-run o e r b)
+    (settle-from (λ x s. choice o x (e .reads s)) (λ s k m q p. e .does s (arrives k m q p)) b 0 0 (r .now))
+settle-now {S} o e r b =
+    settle-related (λ x t. choice o x (e .reads (t .now))) (λ t k m q p. taken e t (arrives k m q p))
+    (λ x s. choice o x (e .reads s)) (λ s k m q p. e .does s (arrives k m q p)) (λ t s. t .now ≡ s)
+    (λ x t s d. ap (λ (u : S). choice o x (e .reads u)) d)
+    (λ x t s k m q p d _. ap (λ (u : S). e .does u (arrives k m q p)) d) b 0 0 r (r .now) refl
 
 -- what the call gives on the words of a run
-module _ (r : Run State) (h : Sound (r .now)) (b : ℕ) where
-  pub settled-sound : Sound (settle-run on-states r b .world .now)
-  settled-sound = settle-related-runs r b h .worlds .sound
+module _ (o : Manner) (r : Run State) (h : Sound (r .now)) (b : ℕ) where
+  pub settled-sound : Sound (settle-run o on-states r b .world .now)
+  settled-sound = settle-related-runs o r b h .worlds .sound
 
-  pub settled-carried : settled-words (encode (r .now)) b ≡ encode (settle-run on-states r b .world .now)
+  pub settled-carried : settled-words o (encode (r .now)) b ≡ encode (settle-run o on-states r b .world .now)
   unfolding settled-words settle-words step
   settled-carried =
-      ap (λ (n : ℕ). pick (eqb n 0) (settle-words (encode (r .now)) b .world) (encode (r .now)))
+      ap (λ (n : ℕ). pick (eqb n 0) (settle-words o (encode (r .now)) b .world) (encode (r .now)))
       (sound-world (r .now) h 0)
-      ∙ sym (settle-now on-words (written r) b .worlds)
-      ∙ ap (λ (t : Run (List ℕ)). t .now) (settle-related-runs r b h .worlds .same)
+      ∙ sym (settle-now o on-words (written r) b .worlds)
+      ∙ ap (λ (t : Run (List ℕ)). t .now) (settle-related-runs o r b h .worlds .same)
 
-  pub answer-carried : settle-reply (encode (r .now)) b ≡ gives (settle-run on-states r b .ending)
+  pub answer-carried : settle-reply o (encode (r .now)) b ≡ gives (settle-run o on-states r b .ending)
   unfolding settle-reply settle-words step
   answer-carried =
-      ap (λ (n : ℕ). reply n (settle-words (encode (r .now)) b .ending)) (sound-world (r .now) h 0)
-      ∙ ap gives (sym (settle-now on-words (written r) b .endings) ∙ sym (settle-related-runs r b h .endings))
+      ap (λ (n : ℕ). reply n (settle-words o (encode (r .now)) b .ending)) (sound-world (r .now) h 0)
+      ∙ ap gives (sym (settle-now o on-words (written r) b .endings) ∙ sym (settle-related-runs o r b h .endings))
 
 -- and on the words of a state
-module _ (s : State) (h : Sound s) (b : ℕ) where
+module _ (o : Manner) (s : State) (h : Sound s) (b : ℕ) where
   -- it, with no history
   abbrev alone : Run State
   alone = record { now = s; seen = [] }
 
-  pub settle-carried : settled-words (encode s) b ≡ encode (settle s b .world)
+  pub settle-carried : settled-words o (encode s) b ≡ encode (settle o s b .world)
   unfolding settle step
-  settle-carried = settled-carried alone h b ∙ ap encode (settle-now on-states alone b .worlds)
+  settle-carried = settled-carried o alone h b ∙ ap encode (settle-now o on-states alone b .worlds)
 
-  pub reply-carried : settle-reply (encode s) b ≡ gives (settle s b .ending)
+  pub reply-carried : settle-reply o (encode s) b ≡ gives (settle o s b .ending)
   unfolding settle step
-  reply-carried = answer-carried alone h b ∙ ap gives (settle-now on-states alone b .endings)
+  reply-carried = answer-carried o alone h b ∙ ap gives (settle-now o on-states alone b .endings)
 
 -- ---- lists
 -- an item
@@ -161,11 +162,9 @@ pub act-carried : (r : Run State) (i : Item) → Sound (r .now)
     → act on-words (written r) i ≡ written (act on-states r i)
 unfolding act settles
 act-carried r (given bytes) h = tick-carried r (read bytes) h
-act-carried r (settling b) h =
-    ap (λ (n : ℕ). pick (eqb n 0) (settle-from (λ t. lowest (view (t .now)))
-    (λ t k m q p. taken on-words t (arrives k m q p)) b 0 (written r) .world) (written r))
-    (sound-world (r .now) h 0)
-    ∙ settle-related-runs r b h .worlds .same
+act-carried r (settling o b) h =
+    ap (λ (n : ℕ). pick (eqb n 0) (settle-run o on-words (written r) b .world) (written r)) (sound-world (r .now) h 0)
+    ∙ settle-related-runs o r b h .worlds .same
 
 -- an item keeps the state sound
 pub act-sound : (r : Run State) (i : Item) → Sound (r .now) → Sound (act on-states r i .now)

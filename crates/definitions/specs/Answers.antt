@@ -111,6 +111,6 @@ message-in before yes-now = before
 message-in before (message-of q x) = x
 message-in before (process-alone q) = before
 
--- The version of the engine, 9.5.0: a million times its first number, a thousand times its second, and its third.
+-- The version of the engine, 9.6.0: a million times its first number, a thousand times its second, and its third.
 abbrev pub version : ℕ
-version = 9005000
+version = 9006000

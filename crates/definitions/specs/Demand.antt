@@ -10,7 +10,7 @@ use Prim.Native.Nat.{ℕ, _≤_, _<_}
 use lib.ListN.{length, getD}
 use Rattle.definitions.specs.General.{Reply, gives, Listed, Bytes}
 use Rattle.definitions.specs.World.{size, count, up, sender, view, addressed}
-use Rattle.definitions.specs.Settle.{Ending, done, stopped}
+use Rattle.definitions.specs.Settle.{Ending, done, stopped, Manner}
 use Rattle.definitions.specs.History.{Before, Run, Item, run, TrustRule}
 use Rattle.definitions.specs.Words.{making-refusal, settled-words, settle-reply, log-words, on-words, started-words}
 use Rattle.definitions.specs.Journal.{write-refusal, written, read-refusal, read-out}
@@ -79,13 +79,13 @@ pub data AtMost (n : ℕ) : Reply Ending → Type 0 where
 pub data SaysDone : Reply Ending → Type 0 where
   says-done : (i : ℕ) → SaysDone (gives (done i))
 
--- Demand 3, for a list of items taken from a run just started.
+-- Demand 3, for a list of items taken from a run just started; of both settles.
 pub record Demand3 (start : Run (List ℕ)) (items : List Item) : Type 0 where
   pub order : CausalOrder (run on-words start items)
-  pub bounded : (b : ℕ) → AtMost 33792 (settle-reply (run on-words start items .now) b)
-  pub settles : TrustRule on-words start items → (b : ℕ) → 33792 ≤ b
-      → SaysDone (settle-reply (run on-words start items .now) b)
-      × Agreed (settled-words (run on-words start items .now) b)
+  pub bounded : (o : Manner) (b : ℕ) → AtMost 33792 (settle-reply o (run on-words start items .now) b)
+  pub settles : TrustRule on-words start items → (o : Manner) (b : ℕ) → 33792 ≤ b
+      → SaysDone (settle-reply o (run on-words start items .now) b)
+      × Agreed (settled-words o (run on-words start items .now) b)
 
 -- Demand 3: for every lent world of 20,480 words, every setup record that is taken and every list of items.
 abbrev pub Demand3Always : Type 0

@@ -10,7 +10,7 @@ use lib.ListN.{length}
 use Rattle.definitions.specs.General.{pick, bit}
 use Rattle.definitions.specs.World.{size, count, group, trust, up, causal-length, causal, State}
 use Rattle.definitions.specs.Steps.{Step, multicasts, arrives, loses, trusts, crashes, malformed, read, is-up, accepted}
-use Rattle.definitions.specs.Settle.{lowest, settle-from}
+use Rattle.definitions.specs.Settle.{Manner, choice, settle-afresh}
 
 -- ---- "Events are accepted multicasts and causal deliveries": p multicast m; p causally delivered m.
 pub data Event : Type 0 where
@@ -74,10 +74,10 @@ pub record Run (S : Type 0) : Type 0 where
   pub now : S
   pub seen : List Event
 
--- Bytes given as a step, or a settle with a budget.
+-- Bytes given as a step, or a settle of either manner with a budget.
 pub data Item : Type 0 where
   given : List ℕ → Item
-  settling : ℕ → Item
+  settling : Manner → ℕ → Item
 
 module _ {S : Type 0} (e : Engine S) where
   -- The run after an accepted step.
@@ -92,14 +92,14 @@ module _ {S : Type 0} (e : Engine S) where
   tick r x = pick (e .world (r .now) && accepted (e .reads (r .now)) x) (taken r x) r
 
   -- "A settle .. counts as the arrivals that it makes": none where there is no world.
-  unfoldable pub settles : Run S → ℕ → Run S
-  settles r b =
+  unfoldable pub settles : Manner → Run S → ℕ → Run S
+  settles o r b =
       pick (e .world (r .now))
-      (settle-from (λ t. lowest (e .reads (t .now))) (λ t k m q p. taken t (arrives k m q p)) b 0 r .world) r
+      (settle-afresh (λ t u. choice o t (e .reads (u .now))) (λ u k m q p. taken u (arrives k m q p)) b r .world) r
 
   unfoldable pub act : Run S → Item → Run S
   act r (given bytes) = tick r (read bytes)
-  act r (settling b) = settles r b
+  act r (settling o b) = settles o r b
 
   unfoldable pub run : Run S → List Item → Run S
   run r [] = r

@@ -18,3 +18,4 @@ pub mod Previews
 pub mod NothingToCome
 pub mod Awaits
 pub mod CameFirst
+pub mod NoStarving

@@ -1,4 +1,4 @@
--- Nothing to come: what card 4 of document 02 claims of settle beside demand 3 (Demand). What its answer says of the
+-- Nothing to come: what card 4 of document 02 claims of settle beside demand 3 (Demand), of both settles. What its answer says of the
 -- letters that are left, for all lent words; and the limit of its arrivals, and lost letters, after any list of items. It
 -- rests on Words and Demand. Assumes nothing.
 use mathlib.Core.Path.{_≡_}
@@ -8,7 +8,7 @@ use Prim.Native.Nat.{ℕ, _≤_, _<_}
 use Rattle.definitions.specs.General.{gives}
 use Rattle.definitions.specs.World.{view}
 use Rattle.definitions.specs.Steps.{loses, read, in-flight}
-use Rattle.definitions.specs.Settle.{done, stopped}
+use Rattle.definitions.specs.Settle.{done, stopped, Manner}
 use Rattle.definitions.specs.History.{Item, given, run}
 use Rattle.definitions.specs.Words.{making-refusal, step-refusal, settled-words, settle-reply, on-words, started-words}
 use Rattle.definitions.specs.Demand.{Live, SaysDone}
@@ -25,13 +25,15 @@ pub data SomeToCome (w : List ℕ) : Type 0 where
 -- ---- the claims of card 4
 pub record NothingToCome : Type 0 where
   -- "nothing was left to come": after a settle that says done no such letter is in flight.
-  pub after-done : (w : List ℕ) (b n : ℕ) → settle-reply w b ≡ gives (done n) → SomeToCome (settled-words w b) → ⊥
+  pub after-done : (o : Manner) (w : List ℕ) (b n : ℕ) → settle-reply o w b ≡ gives (done n)
+      → SomeToCome (settled-words o w b) → ⊥
   -- "Stopped means that the budget is used and such a letter remains."
-  pub after-stopped : (w : List ℕ) (b n : ℕ) → settle-reply w b ≡ gives (stopped n)
-      → (n ≡ b) × SomeToCome (settled-words w b)
+  pub after-stopped : (o : Manner) (w : List ℕ) (b n : ℕ) → settle-reply o w b ≡ gives (stopped n)
+      → (n ≡ b) × SomeToCome (settled-words o w b)
   -- "The limit of 33,792 is the old one": allowed as many it says done, whether the trust rule held or not.
-  pub within-limit : (w setup : List ℕ) (items : List Item) → making-refusal w setup ≡ 0 → (b : ℕ) → 33792 ≤ b
-      → SaysDone (settle-reply (run on-words (started-words w setup) items .now) b)
+  pub within-limit : (o : Manner) (w setup : List ℕ) (items : List Item) → making-refusal w setup ≡ 0 → (b : ℕ)
+      → 33792 ≤ b
+      → SaysDone (settle-reply o (run on-words (started-words w setup) items .now) b)
   -- "A letter already lost is gone": after its loss, and whatever items follow, it is not in flight.
   pub lost-gone : (w setup bytes : List ℕ) (before after : List Item) (k m q p : ℕ) → making-refusal w setup ≡ 0
       → read bytes ≡ loses k m q p → step-refusal (run on-words (started-words w setup) before .now) bytes ≡ 0

@@ -11,6 +11,7 @@ use lib.ListN.{length}
 use Rattle.definitions.specs.General.{pick, gives, byte, tabulate}
 use Rattle.definitions.specs.World.{size, count, rule, group, trust, counter, sequence, next, delivered, up, fifo-length, causal-length, held, marks, fifo, causal, sender, mask, stamp, number, flight, order, unused, State, encode, view}
 use Rattle.definitions.specs.Steps.{Step, multicasts, arrives, loses, trusts, crashes, malformed, read, refusal, step}
+use Rattle.definitions.specs.Settle.{Manner}
 use Rattle.definitions.specs.History.{sent, Run, Item, given, settling, act, run}
 use Rattle.definitions.specs.Words.{making-refusal, step-refusal, settle-reply, log-words, order-reply, on-words, started-words}
 use Rattle.definitions.specs.Journal.{journal-refusal, records-of}
@@ -67,7 +68,7 @@ erased-bytes bytes = tabulate (length bytes) (λ i. pick (of-order bytes i) 0 (b
 unfoldable pub erased-items : List Item → List Item
 erased-items [] = []
 erased-items (given bytes ∷ is) = given (erased-bytes bytes) ∷ erased-items is
-erased-items (settling b ∷ is) = settling b ∷ erased-items is
+erased-items (settling h b ∷ is) = settling h b ∷ erased-items is
 
 -- ---- "this number, which must be the one multicast"
 -- One of the items is the accepted multicast of m, the one whose event is `sent _ m`, and carries the number o.
@@ -86,7 +87,7 @@ pub record Apart (all zeros : Run (List ℕ)) : Type 0 where
   pub words : zeros .now ≡ erased-words (all .now)
   pub logs : (p : ℕ) (log : Bool) → log-words (zeros .now) p log ≡ log-words (all .now) p log
   pub steps : (bytes : List ℕ) → step-refusal (zeros .now) (erased-bytes bytes) ≡ step-refusal (all .now) bytes
-  pub settles : (b : ℕ) → settle-reply (zeros .now) b ≡ settle-reply (all .now) b
+  pub settles : (h : Manner) (b : ℕ) → settle-reply h (zeros .now) b ≡ settle-reply h (all .now) b
 
 -- "Journals whose multicast records have zeros there replay to the same logs": a journal, and one that has its
 -- records with zeros.

@@ -1,10 +1,11 @@
 -- Settle: arrivals one after the other, each of the letter that a choice names, at most a given number:
 -- document 01, section "Precedence, trust rule, settle", as card 4 of document 02 amends it. The choice is a
--- parameter; these papers' is the lowest letter whose receiver is up. It rests on Steps. Assumes nothing.
+-- parameter, and may look at whose turn it is: document 01's is the lowest letter whose receiver is up, that of
+-- card 7 serves the processes in turn. It rests on Steps. Assumes nothing.
 use mathlib.Core.Bool.{Bool, true, false, _&&_}
-use Prim.Native.Nat.{ℕ, zero, suc, _+_}
+use Prim.Native.Nat.{ℕ, zero, suc, _+_, _-_}
 use lib.Dec.{ltb}
-use Rattle.definitions.specs.General.{first-from}
+use Rattle.definitions.specs.General.{pick, first-from}
 use Rattle.definitions.specs.World.{size, count, State}
 use Rattle.definitions.specs.Steps.{is-up, in-flight}
 
@@ -45,6 +46,48 @@ lowest s =
     let m = first-from (s count) 0 (movable s) in
     elim (ltb m (s count)) [ true ↦ letter-of s m | false ↦ nothing ]
 
+-- ---- the choice by turns: document 02, card 7
+-- "it takes its lowest": of the letters to p, by message, kind, from. The lowest sender that has one, the lowest
+-- kind that has such a sender, the lowest message that has such a kind.
+unfoldable pub origin-to : State → ℕ → ℕ → ℕ → ℕ
+origin-to s p m k = first-from (s size) 0 (λ q. moves s m k q p)
+
+unfoldable pub kind-to : State → ℕ → ℕ → ℕ
+kind-to s p m = first-from 3 0 (λ k. ltb (origin-to s p m k) (s size))
+
+unfoldable pub message-to : State → ℕ → ℕ
+message-to s p = first-from (s count) 0 (λ m. ltb (kind-to s p m) 3)
+
+unfoldable pub letter-to : State → ℕ → Choice
+letter-to s p =
+    let m = message-to s p in
+    let k = kind-to s p m in
+    letter k m (origin-to s p m k) p
+
+-- p is an "up process .. that has a letter in flight to it"
+unfoldable pub has-letter : State → ℕ → Bool
+has-letter s p = ltb (message-to s p) (s count)
+
+-- "the first .. in cyclic number order" from t on: of those from t to the last, or else of all.
+unfoldable pub served : State → ℕ → ℕ
+served s t =
+    let p = first-from (s size - t) t (has-letter s) in
+    pick (ltb p (s size)) p (first-from (s size) 0 (has-letter s))
+
+unfoldable pub fair : ℕ → State → Choice
+fair t s =
+    let p = served s t in
+    elim (ltb p (s size)) [ true ↦ letter-to s p | false ↦ nothing ]
+
+-- ---- the two settles: document 01's, and the "second settle" that "serves processes in turn"
+pub data Manner : Type 0 where
+  lowest-first by-turns : Manner
+
+-- The choice of each, where it is the turn of t.
+abbrev pub choice : Manner → ℕ → State → Choice
+choice lowest-first t s = lowest s
+choice by-turns t s = fair t s
+
 -- ---- "It returns the number of arrivals made and done, or stopped."
 pub data Ending : Type 0 where
   done stopped : ℕ → Ending
@@ -54,17 +97,23 @@ pub record Settled (S : Type 0) : Type 0 where
   pub ending : Ending
 
 -- Over any states, with any choice and any arrival.
-module _ {S : Type 0} (choose : S → Choice) (arrive : S → ℕ → ℕ → ℕ → ℕ → S) where
-  -- At most b more arrivals, n having been made; "stopped: exactly when that number is the budget and such
-  -- a letter remains" (document 01), "the budget is used and such a letter remains" (document 02, card 4).
-  unfoldable pub settle-from : ℕ → ℕ → S → Settled S
-  settle-from zero n s =
-      elim (choose s) [
+module _ {S : Type 0} (choose : ℕ → S → Choice) (arrive : S → ℕ → ℕ → ℕ → ℕ → S) where
+  -- At most b more arrivals, n having been made, in the turn of t: "after an arrival at p, the next goes to the
+  -- first .. after p", "p itself coming last" (card 7), so it is then the turn of p + 1. "stopped: exactly when
+  -- that number is the budget and such a letter remains" (document 01), "the budget is used and such a letter
+  -- remains" (document 02, card 4).
+  unfoldable pub settle-from : ℕ → ℕ → ℕ → S → Settled S
+  settle-from zero n t s =
+      elim (choose t s) [
         | letter k m q p ↦ record { world = s; ending = stopped n }
         | nothing ↦ record { world = s; ending = done n }
       ]
-  settle-from (suc b) n s =
-      elim (choose s) [
-        | letter k m q p ↦ settle-from b (n + 1) (arrive s k m q p)
+  settle-from (suc b) n t s =
+      elim (choose t s) [
+        | letter k m q p ↦ settle-from b (n + 1) (p + 1) (arrive s k m q p)
         | nothing ↦ record { world = s; ending = done n }
       ]
+
+  -- "Each call starts afresh, trying process 0 first."
+  abbrev pub settle-afresh : ℕ → S → Settled S
+  settle-afresh b s = settle-from b 0 0 s

@@ -13,7 +13,7 @@ use Rattle.definitions.specs.Sound.{sound}
 use Rattle.definitions.specs.Setup.{setup-refusal, made}
 use Rattle.definitions.specs.Machine.{Awaited, awaited, arrival}
 use Rattle.definitions.specs.Steps.{Step, read, refusal, step}
-use Rattle.definitions.specs.Settle.{Ending, Settled, lowest, settle-from}
+use Rattle.definitions.specs.Settle.{Ending, Settled, Manner, choice, settle-afresh}
 use Rattle.definitions.specs.History.{Engine, Run}
 
 -- ---- refusals 1 and 2
@@ -40,16 +40,17 @@ step-refusal w bytes = needs-world w (refusal (view w) (read bytes))
 unfoldable pub stepped-words : List ℕ → List ℕ → List ℕ
 stepped-words w bytes = unless-refused (step-refusal w bytes) (step-words w (read bytes)) w
 
--- ---- settle: "Its refusals are 1 and 2."
+-- ---- settle, of either manner: "Its refusals are 1 and 2."
 -- The arrivals that it makes, on words.
-unfoldable pub settle-words : List ℕ → ℕ → Settled (List ℕ)
-settle-words w b = settle-from (λ u. lowest (view u)) (λ u k m q p. encode (arrival (view u) k m q p)) b 0 w
+unfoldable pub settle-words : Manner → List ℕ → ℕ → Settled (List ℕ)
+settle-words o w b =
+    settle-afresh (λ t u. choice o t (view u)) (λ u k m q p. encode (arrival (view u) k m q p)) b w
 
-unfoldable pub settled-words : List ℕ → ℕ → List ℕ
-settled-words w b = unless-refused (needs-world w 0) (settle-words w b .world) w
+unfoldable pub settled-words : Manner → List ℕ → ℕ → List ℕ
+settled-words o w b = unless-refused (needs-world w 0) (settle-words o w b .world) w
 
-unfoldable pub settle-reply : List ℕ → ℕ → Reply Ending
-settle-reply w b = reply (needs-world w 0) (settle-words w b .ending)
+unfoldable pub settle-reply : Manner → List ℕ → ℕ → Reply Ending
+settle-reply o w b = reply (needs-world w 0) (settle-words o w b .ending)
 
 -- ---- logs: "a bool picks FIFO or causal": true picks causal
 abbrev pub log-length : State → ℕ → Bool → ℕ

@@ -15,7 +15,7 @@ use Rattle.definitions.specs.World.{size, group, trust, up, fifo-length, causal
 use Rattle.definitions.specs.Setup.{fresh, setup-bits, setup-group, good-setup, setup-refusal, made}
 use Rattle.definitions.specs.Machine.{with-tables, ready, lowest-short, lowest-awaited, short-of, awaited, deliverable, deliverable-at, merge, causal-one, causal-all, appended, raised-next, due, send-ok, send-oks, fifo-one, cascade, raised, stamped, numbered, posted, multicast, leave, mark, hold, arrival, trust-set, crash}
 use Rattle.definitions.specs.Steps.{read, good-mask, is-up, refusal, step}
-use Rattle.definitions.specs.Settle.{moves, receiver, origin, kind, movable, letter-of, lowest, settle-from}
+use Rattle.definitions.specs.Settle.{moves, receiver, origin, kind, movable, letter-of, lowest, lowest-first, Manner, settle-from}
 use Rattle.definitions.specs.History.{Event, sent, got, here, there, same, carried, chain, Before, casts, deliveries, gained, Run, Item, given, tick, act, run, names, InForce, AllAlong, TrustRule}
 use Rattle.definitions.specs.Words.{making-refusal, settled-words, on-words, started-words}
 use Rattle.definitions.specs.Demand.{Agreed as AgreedWords}
@@ -170,10 +170,10 @@ crash-rule = record {
     trusts : (s : State) → Both s → InForce (is-up (r₄ .now)) s
     trusts = both-trust (is-up (r₄ .now)) refl
 
--- so after a settle with 33,792 arrivals what one process has FIFO-delivered every live addressee has
-pub crash-agreed : Agreed (settled (run on-states (started pair) crashing) 33792 .world .now)
+-- so after either settle with 33,792 arrivals what one process has FIFO-delivered every live addressee has
+pub crash-agreed : (o : Manner) → Agreed (settled o (run on-states (started pair) crashing) 33792 .world .now)
 unfolding setup-refusal good-setup setup-bits setup-group every
-crash-agreed = demand-3-states pair crashing refl .agreed crash-rule 33792 (omega arith)
+crash-agreed o = demand-3-states pair crashing refl .agreed crash-rule o 33792 (omega arith)
 
 -- and the live process has: its own OK arrives in the settle, and the message of the process that crashed is
 -- in both its logs
@@ -185,7 +185,7 @@ survived s =
     && eqb (s (fifo-length 0)) 0
 
 -- it is so
-pub crash-delivered : survived (settled (run on-states (started pair) crashing) 5 .world .now) ≡ true
+pub crash-delivered : survived (settled lowest-first (run on-states (started pair) crashing) 5 .world .now) ≡ true
 unfolding ℕ-discrete every some first-from absent chosen loop bit with without mask-of only put with-tables
     ready lowest-short lowest-awaited short-of awaited deliverable deliverable-at merge causal-one causal-all appended raised-next due send-ok send-oks
     fifo-one cascade raised stamped numbered posted multicast leave mark hold arrival trust-set crash fresh
@@ -207,7 +207,7 @@ module _ (w : List ℕ) (long : length w ≡ 20480) where
       rw (start-carried w pair pair-taken)
       (rule-written (started pair) crashing (fresh-sound pair refl) crash-rule)
 
-  -- so the FIFO logs agree after a settle
-  pub crash-agreed-words : AgreedWords
-      (settled-words (run on-words (started-words w pair) crashing .now) 33792)
-  crash-agreed-words = demand-3 w pair crashing pair-taken .settles crash-rule-words 33792 (omega arith) .1
+  -- so the FIFO logs agree after either settle
+  pub crash-agreed-words : (o : Manner)
+      → AgreedWords (settled-words o (run on-words (started-words w pair) crashing .now) 33792)
+  crash-agreed-words o = demand-3 w pair crashing pair-taken .settles crash-rule-words o 33792 (omega arith) .1

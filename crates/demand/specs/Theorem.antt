@@ -1,5 +1,5 @@
 -- Demand 3: for every lent world of 20,480 words, every setup record that is taken and every list of items,
--- what the calls give has causal order, settle makes at most 33,792 arrivals, and under the trust rule a
+-- what the calls give has causal order, either settle makes at most 33,792 arrivals, and under the trust rule a
 -- settle allowed that many says done and leaves the FIFO logs agreed. No hypothesis but the trust rule where
 -- the demand names it. It is the demand over states (States), read off the words of the run's state (Words).
 -- Assumes nothing.
@@ -12,7 +12,7 @@ use lib.ListN.{length, getD}
 use Rattle.definitions.specs.General.{in-at, gives}
 use Rattle.definitions.specs.World.{size, count, up, causal-length, causal, sender, State, encode, view, addressed}
 use Rattle.definitions.specs.Setup.{setup-refusal}
-use Rattle.definitions.specs.Settle.{Ending, done, stopped}
+use Rattle.definitions.specs.Settle.{Ending, done, stopped, Manner}
 use Rattle.definitions.specs.History.{Before, casts, Run, Item, run}
 use Rattle.definitions.specs.Words.{settle-reply, log-words, on-words}
 use Rattle.definitions.specs.Demand.{CausalOrder, Agreed, AtMost, done-within, stopped-within, SaysDone, says-done, Demand3, Demand3Always}
@@ -149,18 +149,18 @@ module _ (setup : List ℕ) (items : List Item) (ok : setup-refusal setup ≡ 0)
   unfolding settled
   demand-3-written = record {
     order = rw carried (causal-order r sound-last (on-states-3 .whole));
-    bounded = λ b. rw (reply b) (at-most 33792 (settled r b .ending) (on-states-3 .bounded b));
-    settles = λ t b l. (
-      rw (reply b) (says (settled r b .ending) (on-states-3 .finishes b l)),
-      rw (carried, settled-carried r sound-last b)
-          (agreed-words (settled r b .world .now) (settled-sound r sound-last b)
-          (on-states-3 .agreed (rule-read (started setup) items sound-first t) b l)),
+    bounded = λ o b. rw (reply o b) (at-most 33792 (settled o r b .ending) (on-states-3 .bounded o b));
+    settles = λ t o b l. (
+      rw (reply o b) (says (settled o r b .ending) (on-states-3 .finishes o b l)),
+      rw (carried, settled-carried o r sound-last b)
+          (agreed-words (settled o r b .world .now) (settled-sound o r sound-last b)
+          (on-states-3 .agreed (rule-read (started setup) items sound-first t) o b l)),
     );
   }
     where
-      reply : (b : ℕ)
-          → settle-reply (run on-words (written (started setup)) items .now) b ≡ gives (settled r b .ending)
-      reply b = ap (λ (x : Run (List ℕ)). settle-reply (x .now) b) carried ∙ answer-carried r sound-last b
+      reply : (o : Manner) (b : ℕ)
+          → settle-reply o (run on-words (written (started setup)) items .now) b ≡ gives (settled o r b .ending)
+      reply o b = ap (λ (x : Run (List ℕ)). settle-reply o (x .now) b) carried ∙ answer-carried o r sound-last b
 
 -- Demand 3. Why it is true: a process delivers causally only what every other sender's counter allows, and
 -- counters count the multicasts known of; so a message goes in exactly when all that precede it and are to

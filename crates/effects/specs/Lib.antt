@@ -3,6 +3,7 @@ pub mod Cascade
 pub mod Arrival
 pub mod Holding
 pub mod Spent
+pub mod Flying
 pub mod Events
 pub mod Runs
 pub mod Logs

@@ -6,9 +6,10 @@ use mathlib.Core.List.{List, [], _∷_, _++_}
 use Rattle.definitions.specs.General.{pick}
 use Rattle.definitions.specs.World.{State}
 use Rattle.definitions.specs.Steps.{Step, arrives, read, accepted}
-use Rattle.definitions.specs.Settle.{lowest}
+use Rattle.definitions.specs.Settle.{choice}
 use Rattle.definitions.specs.History.{Run, Item, given, settling, taken, tick, settles, act, run}
-use Rattle.world.specs.StepLaws.{lowest-moves, moves-taken}
+use Rattle.world.specs.StepLaws.{moves-taken}
+use Rattle.world.specs.TurnLaws.{choice-moves}
 use Rattle.world.specs.SettleLaws.{settle-keeps}
 use Rattle.world.specs.Runs.{on-states}
 
@@ -22,10 +23,10 @@ module _ (P : Run State → Type 0)
       go : (b : Bool) → accepted (r .now) (read bytes) ≡ b → P (pick b (taken on-states r (read bytes)) r)
       go true e = keep r (read bytes) e w
       go false e = w
-  act-keeps r (settling b) w =
-      settle-keeps (λ t. lowest (t .now)) (λ t k m q p. taken on-states t (arrives k m q p)) P
-      (λ t k m q p e. keep t (arrives k m q p)
-      (moves-taken (t .now) k m q p (lowest-moves (t .now) k m q p e))) b 0 r w
+  act-keeps r (settling o b) w =
+      settle-keeps (λ x t. choice o x (t .now)) (λ t k m q p. taken on-states t (arrives k m q p)) P
+      (λ x t k m q p e. keep t (arrives k m q p)
+      (moves-taken (t .now) k m q p (choice-moves o x (t .now) k m q p e))) b 0 0 r w
 
   -- a list
   pub run-keeps : (r : Run State) (items : List Item) → P r → P (run on-states r items)

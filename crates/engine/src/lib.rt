@@ -9,10 +9,11 @@ use definitions::Settling;
 ghost use mathlib.Core.Path.{_≡_};
 ghost use lib.ListN.{length};
 ghost use Rattle.definitions.specs.General.{refusal-in, value-in};
+ghost use Rattle.definitions.specs.Settle.{lowest-first, by-turns};
 ghost use Rattle.definitions.specs.Words.{making-refusal, made-words, step-refusal, stepped-words, previewed-words, NewDeliveries, preview-reply, settle-reply, settled-words, log-start, length-reply, order-reply, awaited-reply, precedes-bytes, precedes-reply};
 ghost use Rattle.definitions.specs.Journal.{needed-reply, write-refusal, written, count-reply, read-refusal, read-out};
 ghost use Rattle.definitions.specs.Replay.{Counts, replay-reply, replayed-words};
-ghost use Rattle.definitions.specs.Answers.{arrivals-in, done-in, kind-in, process-in, message-in, version};
+ghost use Rattle.definitions.specs.Answers.{settling-reply, arrivals-in, done-in, kind-in, process-in, message-in, version};
 
 // The version of the archive, as one number.
 #[no_mangle]
@@ -209,15 +210,13 @@ pub extern "C" fn wt_precedes(
     }
 }
 
-// Makes at most `budget` arrivals; gives their number, and 1 for done or 0 for stopped: 0, 1 or 2.
-#[no_mangle]
-pub extern "C" fn wt_settle(w: &mut [u16], budget: u32, arrivals: &mut u32, done: &mut u32) -> u32
-    ensures answer { λ r. ⌜ r ≡ refusal-in (settle-reply (now (w .entry)) budget) ⌝ }
-    ensures words { λ _. ⌜ now (w .exit) ≡ settled-words (now (w .entry)) budget ⌝ }
-    ensures arrivals { λ _. ⌜ now (arrivals .exit) ≡ value-in arrivals-in (settle-reply (now (w .entry)) budget) (now (arrivals .entry)) ⌝ }
-    ensures done { λ _. ⌜ now (done .exit) ≡ value-in done-in (settle-reply (now (w .entry)) budget) (now (done .entry)) ⌝ }
+// The number of a settle's answer; its arrivals are given, and 1 for done or 0 for stopped.
+fn tell(answer: Settling, arrivals: &mut u32, done: &mut u32) -> u32
+    ensures answer { λ r. ⌜ r ≡ refusal-in (settling-reply answer) ⌝ }
+    ensures arrivals { λ _. ⌜ now (arrivals .exit) ≡ value-in arrivals-in (settling-reply answer) (now (arrivals .entry)) ⌝ }
+    ensures done { λ _. ⌜ now (done .exit) ≡ value-in done-in (settling-reply answer) (now (done .entry)) ⌝ }
 {
-    match calls::settle(w, budget) {
+    match answer {
         Settling::Done(n) => {
             *arrivals = n;
             *done = 1;
@@ -230,6 +229,33 @@ pub extern "C" fn wt_settle(w: &mut [u16], budget: u32, arrivals: &mut u32, done
         }
         Settling::Refused(r) => answers::number(r),
     }
+}
+
+// Makes at most `budget` arrivals; gives their number, and 1 for done or 0 for stopped: 0, 1 or 2.
+#[no_mangle]
+pub extern "C" fn wt_settle(w: &mut [u16], budget: u32, arrivals: &mut u32, done: &mut u32) -> u32
+    ensures answer { λ r. ⌜ r ≡ refusal-in (settle-reply lowest-first (now (w .entry)) budget) ⌝ }
+    ensures words { λ _. ⌜ now (w .exit) ≡ settled-words lowest-first (now (w .entry)) budget ⌝ }
+    ensures arrivals { λ _. ⌜ now (arrivals .exit) ≡ value-in arrivals-in (settle-reply lowest-first (now (w .entry)) budget) (now (arrivals .entry)) ⌝ }
+    ensures done { λ _. ⌜ now (done .exit) ≡ value-in done-in (settle-reply lowest-first (now (w .entry)) budget) (now (done .entry)) ⌝ }
+{
+    tell(calls::settle(w, budget), arrivals, done)
+}
+
+// The same, the processes served in turn: 0, 1 or 2.
+#[no_mangle]
+pub extern "C" fn wt_settle_fair(
+    w: &mut [u16],
+    budget: u32,
+    arrivals: &mut u32,
+    done: &mut u32,
+) -> u32
+    ensures answer { λ r. ⌜ r ≡ refusal-in (settle-reply by-turns (now (w .entry)) budget) ⌝ }
+    ensures words { λ _. ⌜ now (w .exit) ≡ settled-words by-turns (now (w .entry)) budget ⌝ }
+    ensures arrivals { λ _. ⌜ now (arrivals .exit) ≡ value-in arrivals-in (settle-reply by-turns (now (w .entry)) budget) (now (arrivals .entry)) ⌝ }
+    ensures done { λ _. ⌜ now (done .exit) ≡ value-in done-in (settle-reply by-turns (now (w .entry)) budget) (now (done .entry)) ⌝ }
+{
+    tell(calls::settle_fair(w, budget), arrivals, done)
 }
 
 // Replays a journal; gives the number of records after its setup, and how many were refused: 0, 1, 3, 13, 14 or 15.

@@ -15,13 +15,14 @@ use Rattle.definitions.specs.Sound.{sound}
 use Rattle.definitions.specs.Setup.{setup-refusal, made}
 use Rattle.definitions.specs.Machine.{arrival}
 use Rattle.definitions.specs.Steps.{Step, multicasts, arrives, loses, trusts, crashes, malformed, read, refusal, accepted, step, after}
-use Rattle.definitions.specs.Settle.{Choice, letter, lowest, settle-from}
+use Rattle.definitions.specs.Settle.{Choice, letter, Manner, choice, settle-from}
 use Rattle.definitions.specs.History.{Run, Item, given, settling, taken, tick, settles, act, run}
 use Rattle.definitions.specs.Words.{needs-world, making-refusal, made-words, step-words, step-refusal, stepped-words, settle-words, settled-words}
 use Rattle.base.specs.Refusals.{needs-none}
 use Rattle.world.specs.Layout.{length-encode, encode-view}
 use Rattle.world.specs.SoundLaws.{Sound, size-high, count-high, sound-facts, facts-sound, sound-words}
-use Rattle.world.specs.StepLaws.{accepted-multicast, accepted-arrival, accepted-loss, accepted-trust, moves-taken, lowest-moves}
+use Rattle.world.specs.StepLaws.{accepted-multicast, accepted-arrival, accepted-loss, accepted-trust, moves-taken}
+use Rattle.world.specs.TurnLaws.{choice-moves}
 use Rattle.world.specs.SettleLaws.{settle, settle-keeps}
 use Rattle.world.specs.Runs.{on-states, started}
 use Rattle.world.specs.Calls.{item-words, run-words}
@@ -63,22 +64,23 @@ after-sound s x h = go (accepted s x) refl
     go false e = h
 
 -- settle, with any choice of letters whose arrivals are accepted
-pub settle-from-sound : (choose : State → Choice)
-    → ((s : State) (k m q p : ℕ) → choose s ≡ letter k m q p → accepted s (arrives k m q p) ≡ true)
-    → (s : State) (b n : ℕ) → Sound s → Sound (settle-from choose arrival b n s .world)
+pub settle-from-sound : (choose : ℕ → State → Choice)
+    → ((x : ℕ) (s : State) (k m q p : ℕ) → choose x s ≡ letter k m q p → accepted s (arrives k m q p) ≡ true)
+    → (s : State) (b n x : ℕ) → Sound s → Sound (settle-from choose arrival b n x s .world)
 unfolding step
-settle-from-sound choose able s b n h =
+settle-from-sound choose able s b n x h =
     settle-keeps choose arrival Sound
-    (λ t k m q p e d. step-sound t (arrives k m q p) (able t k m q p e) d) b n s h
+    (λ y t k m q p e d. step-sound t (arrives k m q p) (able y t k m q p e) d) b n x s h
 
--- the lowest letter is such a choice
-lowest-able : (s : State) (k m q p : ℕ) → lowest s ≡ letter k m q p → accepted s (arrives k m q p) ≡ true
-lowest-able s k m q p e = moves-taken s k m q p (lowest-moves s k m q p e)
+-- either manner has such a choice
+able : (o : Manner) (x : ℕ) (s : State) (k m q p : ℕ) → choice o x s ≡ letter k m q p
+    → accepted s (arrives k m q p) ≡ true
+able o x s k m q p e = moves-taken s k m q p (choice-moves o x s k m q p e)
 
--- settle, with the choice of document 01 and any budget
-pub settle-sound : (s : State) (b : ℕ) → Sound s → Sound (settle s b .world)
+-- settle, of either manner and with any budget
+pub settle-sound : (o : Manner) (s : State) (b : ℕ) → Sound s → Sound (settle o s b .world)
 unfolding settle
-settle-sound s b h = settle-from-sound lowest lowest-able s b 0 h
+settle-sound o s b h = settle-from-sound (choice o) (able o) s b 0 0 h
 
 -- one item of a run, a step or a settle
 act-sound : (r : Run State) (i : Item) → Sound (r .now) → Sound (act on-states r i .now)
@@ -88,10 +90,10 @@ act-sound r (given bytes) h = go (accepted (r .now) (read bytes)) refl
     go : (b : Bool) → accepted (r .now) (read bytes) ≡ b → Sound (pick b (taken on-states r (read bytes)) r .now)
     go true e = step-sound (r .now) (read bytes) e h
     go false e = h
-act-sound r (settling b) h =
-    settle-keeps (λ t. lowest (t .now)) (λ t k m q p. taken on-states t (arrives k m q p))
+act-sound r (settling o b) h =
+    settle-keeps (λ x t. choice o x (t .now)) (λ t k m q p. taken on-states t (arrives k m q p))
     (λ t. Sound (t .now))
-    (λ t k m q p e d. step-sound (t .now) (arrives k m q p) (lowest-able (t .now) k m q p e) d) b 0 r h
+    (λ x t k m q p e d. step-sound (t .now) (arrives k m q p) (able o x (t .now) k m q p e) d) b 0 0 r h
 
 -- a run of any list of items
 pub run-sound : (r : Run State) (items : List Item) → Sound (r .now) → Sound (run on-states r items .now)
@@ -122,12 +124,12 @@ sound-refusal w bytes h = sound-words-taken w h (refusal (view w) (read bytes))
 pub sound-stepped : (w bytes : List ℕ) → SoundWords w → encode (after (view w) (read bytes)) ≡ stepped-words w bytes
 unfolding stepped-words after
 sound-stepped w bytes h =
-    choice (accepted (view w) (read bytes))
+    either-way (accepted (view w) (read bytes))
     ∙ ap (λ (n : ℕ). unless-refused n (step-words w (read bytes)) w) (sym (sound-refusal w bytes h))
   where
-    choice : (b : Bool) → encode (pick b (step (view w) (read bytes)) (view w)) ≡ pick b (step-words w (read bytes)) w
-    choice true = refl
-    choice false = encode-view w (h .long)
+    either-way : (b : Bool) → encode (pick b (step (view w) (read bytes)) (view w)) ≡ pick b (step-words w (read bytes)) w
+    either-way true = refl
+    either-way false = encode-view w (h .long)
 
 -- words that are taken are such, and what comes after 1 and 2 refuses nothing
 pub world-taken : (w : List ℕ) (n : ℕ) → needs-world w n ≡ 0 → SoundWords w × (n ≡ 0)
@@ -164,14 +166,14 @@ stepped-words-sound w bytes h = go (eqb (step-refusal w bytes) 0) refl
         encoded (step (view w) (read bytes)) (step-sound (view w) (read bytes) (eq-eqb (refusal (view w) (read bytes)) 0 (b .1)) (h .reads))
 
 -- the words after a settle with any budget
-pub settled-words-sound : (w : List ℕ) (b : ℕ) → SoundWords w → SoundWords (settled-words w b)
+pub settled-words-sound : (o : Manner) (w : List ℕ) (b : ℕ) → SoundWords w → SoundWords (settled-words o w b)
 unfolding settled-words settle-words step
-settled-words-sound w b h =
+settled-words-sound o w b h =
     subst SoundWords
-    (sym (ap (λ (n : ℕ). unless-refused n (settle-words w b .world) w) (sound-words-taken w h 0)))
-    (settle-keeps (λ u. lowest (view u)) (λ u k m q p. encode (arrival (view u) k m q p)) SoundWords
-    (λ u k m q p e d. encoded (arrival (view u) k m q p)
-    (step-sound (view u) (arrives k m q p) (lowest-able (view u) k m q p e) (d .reads))) b 0 w h)
+    (sym (ap (λ (n : ℕ). unless-refused n (settle-words o w b .world) w) (sound-words-taken w h 0)))
+    (settle-keeps (λ x u. choice o x (view u)) (λ u k m q p. encode (arrival (view u) k m q p)) SoundWords
+    (λ x u k m q p e d. encoded (arrival (view u) k m q p)
+    (step-sound (view u) (arrives k m q p) (able o x (view u) k m q p e) (d .reads))) b 0 0 w h)
 
 -- the words after a list of steps and settles
 pub run-words-sound : (w : List ℕ) (items : List Item) → SoundWords w → SoundWords (run-words w items)
@@ -179,4 +181,5 @@ unfolding run-words item-words
 run-words-sound w [] h = h
 run-words-sound w (given bytes ∷ items) h =
     run-words-sound (stepped-words w bytes) items (stepped-words-sound w bytes h)
-run-words-sound w (settling b ∷ items) h = run-words-sound (settled-words w b) items (settled-words-sound w b h)
+run-words-sound w (settling o b ∷ items) h =
+    run-words-sound (settled-words o w b) items (settled-words-sound o w b h)

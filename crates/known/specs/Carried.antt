@@ -28,7 +28,7 @@ use Rattle.known.specs.Runs.{Line, takes, settles, shows, Row, plays, ch
 abbrev pub LinesHold : List ℕ → List Line → Type 0
 LinesHold w [] = Unit {0}
 LinesHold w (takes bytes n ∷ ls) = (step-refusal w bytes ≡ n) × LinesHold (stepped-words w bytes) ls
-LinesHold w (settles b e ∷ ls) = (settle-reply w b ≡ gives e) × LinesHold (settled-words w b) ls
+LinesHold w (settles o b e ∷ ls) = (settle-reply o w b ≡ gives e) × LinesHold (settled-words o w b) ls
 LinesHold w (shows p live fs cs ∷ ls) =
     (is-up (view w) p ≡ live) × (log-words w p false ≡ fs) × (log-words w p true ≡ cs) × LinesHold w ls
 
@@ -78,13 +78,13 @@ lines-carried s h (takes bytes n ∷ ls) e =
       refusal-carried s h bytes ∙ eqb-true (refusal s (read bytes)) n a,
       rw (step-carried s h bytes) rest,
     )
-lines-carried s h (settles b x ∷ ls) e =
-    let t : State = settle s b .world in
-    let a = both-l (same-ending (settle s b .ending) x) (lines-pass t ls) e in
-    let rest = lines-carried t (settle-sound s b h) ls
-    (both-r (same-ending (settle s b .ending) x) (lines-pass t ls) e) in (
-      reply-carried s h b ∙ ap gives (ending-same (settle s b .ending) x a),
-      rw (settle-carried s h b) rest,
+lines-carried s h (settles o b x ∷ ls) e =
+    let t : State = settle o s b .world in
+    let a = both-l (same-ending (settle o s b .ending) x) (lines-pass t ls) e in
+    let rest = lines-carried t (settle-sound o s b h) ls
+    (both-r (same-ending (settle o s b .ending) x) (lines-pass t ls) e) in (
+      reply-carried o s h b ∙ ap gives (ending-same (settle o s b .ending) x a),
+      rw (settle-carried o s h b) rest,
     )
 lines-carried s h (shows p live fs cs ∷ ls) e =
     let here : Bool = is-process s p in

@@ -12,7 +12,7 @@ use Rattle.definitions.specs.World.{fifo-length, causal-length, fifo, causal, S
 use Rattle.definitions.specs.Setup.{fresh, setup-bits, setup-group, good-setup, setup-refusal, made}
 use Rattle.definitions.specs.Machine.{with-tables, ready, lowest-short, lowest-awaited, short-of, awaited, deliverable, deliverable-at, merge, causal-one, causal-all, appended, raised-next, due, send-ok, send-oks, fifo-one, cascade, raised, stamped, numbered, posted, multicast, leave, mark, hold, arrival, trust-set, crash}
 use Rattle.definitions.specs.Steps.{read, good-mask, is-up, refusal, step, after}
-use Rattle.definitions.specs.Settle.{moves, receiver, origin, kind, movable, letter-of, lowest, Ending, done, stopped, settle-from}
+use Rattle.definitions.specs.Settle.{moves, receiver, origin, kind, movable, letter-of, lowest, origin-to, kind-to, message-to, letter-to, has-letter, served, fair, Manner, lowest-first, by-turns, Ending, done, stopped, settle-from}
 use Rattle.definitions.specs.Checksum.{ones-sum, checksum}
 use Rattle.definitions.specs.Block.{body, block, check-of}
 use Rattle.world.specs.SettleLaws.{settle}
@@ -21,8 +21,8 @@ use Rattle.world.specs.SettleLaws.{settle}
 pub data Line : Type 0 where
   -- bytes given as a step, and the number of its refusal (0: taken)
   takes : List ℕ → ℕ → Line
-  -- a settle with a budget, and its answer
-  settles : ℕ → Ending → Line
+  -- a settle of either manner with a budget, and its answer
+  settles : Manner → ℕ → Ending → Line
   -- process p: whether it is up, its FIFO log and its causal log
   shows : ℕ → Bool → List ℕ → List ℕ → Line
 
@@ -53,7 +53,7 @@ same-ending (stopped m) (stopped n) = eqb m n
 unfoldable pub lines-pass : State → List Line → Bool
 lines-pass s [] = true
 lines-pass s (takes bytes n ∷ ls) = eqb (refusal s (read bytes)) n && lines-pass (after s (read bytes)) ls
-lines-pass s (settles b e ∷ ls) = same-ending (settle s b .ending) e && lines-pass (settle s b .world) ls
+lines-pass s (settles o b e ∷ ls) = same-ending (settle o s b .ending) e && lines-pass (settle o s b .world) ls
 lines-pass s (shows p live fs cs ∷ ls) =
     is-process s p
     && same-flag (is-up s p) live
@@ -150,7 +150,7 @@ run-4 = plays three 0
     ++ (takes (crashing 0) 0
     ∷ takes (losing 0 0 0 2) 0
     ∷ shows 2 true (2 ∷ []) []
-    ∷ settles 33792 (done 0)
+    ∷ settles lowest-first 33792 (done 0)
     ∷ shows 2 true (2 ∷ []) []
     ∷ shows 0 false [] []
     ∷ []))
@@ -166,7 +166,7 @@ abbrev run-6 : Row
 run-6 = plays one 0 (times 64 (takes (multicasting 0 1) 0) (takes (multicasting 0 1) 10 ∷ []))
 
 abbrev run-7 : Row
-run-7 = plays one 0 (settles 0 (done 0) ∷ [])
+run-7 = plays one 0 (settles lowest-first 0 (done 0) ∷ [])
 
 abbrev run-8 : Row
 run-8 = plays one 0 (takes (crashing 0) 0 ∷ takes (crashing 0) 9 ∷ [])
@@ -215,13 +215,13 @@ same-sender = plays two-and-one 0
 abbrev settled : Row
 settled = plays pair 0
     (takes (multicasting 0 1) 0
-    ∷ settles 0 (stopped 0)
-    ∷ settles 1 (stopped 1)
+    ∷ settles lowest-first 0 (stopped 0)
+    ∷ settles lowest-first 1 (stopped 1)
     ∷ shows 0 true [] []
-    ∷ settles 5 (done 5)
+    ∷ settles lowest-first 5 (done 5)
     ∷ shows 0 true (0 ∷ []) (0 ∷ [])
     ∷ shows 1 true (0 ∷ []) (0 ∷ [])
-    ∷ settles 33792 (done 0)
+    ∷ settles lowest-first 33792 (done 0)
     ∷ [])
 
 -- ---- each refusal by its condition, the lowest number first
@@ -268,9 +268,9 @@ abbrev down-sender : Row
 down-sender = plays pair 0
     (takes (multicasting 0 1) 0
     ∷ takes (crashing 0) 0
-    ∷ settles 0 (stopped 0)
+    ∷ settles lowest-first 0 (stopped 0)
     ∷ takes (arriving 0 0 0 1) 0
-    ∷ settles 5 (done 1)
+    ∷ settles lowest-first 5 (done 1)
     ∷ takes (arriving 0 0 0 0) 9
     ∷ takes (losing 0 0 0 0) 0
     ∷ takes (arriving 1 0 1 0) 9
@@ -282,16 +282,41 @@ abbrev dead-sender : Row
 dead-sender = plays three 0
     (takes (multicasting 0 2) 0
     ∷ takes (crashing 0) 0
-    ∷ settles 33792 (done 2)
+    ∷ settles lowest-first 33792 (done 2)
     ∷ shows 1 true (0 ∷ []) (0 ∷ [])
     ∷ shows 0 false [] []
     ∷ [])
+
+-- ---- request 7: by turns
+-- Process 0 multicasts messages 0 and 1 to process 1 and 2 to process 2. Lowest first, four arrivals bring 1 both
+-- its messages; by turns they bring 1 and 2 one each, and the end is the same.
+abbrev three-sent : List Line → List Line
+three-sent ls = takes (multicasting 0 2) 0 ∷ takes (multicasting 0 2) 0 ∷ takes (multicasting 0 4) 0 ∷ ls
+
+abbrev by-lowest : Row
+by-lowest = plays three 0 (three-sent
+    (settles lowest-first 4 (stopped 4)
+    ∷ shows 1 true (0 ∷ 1 ∷ []) (0 ∷ 1 ∷ [])
+    ∷ shows 2 true [] []
+    ∷ settles lowest-first 2 (done 2)
+    ∷ shows 2 true (2 ∷ []) (2 ∷ [])
+    ∷ []))
+
+abbrev in-turns : Row
+in-turns = plays three 0 (three-sent
+    (settles by-turns 2 (stopped 2)
+    ∷ settles by-turns 2 (stopped 2)
+    ∷ shows 1 true (0 ∷ []) (0 ∷ [])
+    ∷ shows 2 true (2 ∷ []) (2 ∷ [])
+    ∷ settles by-turns 33792 (done 2)
+    ∷ shows 1 true (0 ∷ 1 ∷ []) (0 ∷ 1 ∷ [])
+    ∷ []))
 
 abbrev pub table : List Row
 table =
     run-1 ∷ run-2 ∷ run-3 ∷ run-4 ∷ run-5
     ++ (run-6 ∷ run-7 ∷ run-8 ∷ ok-holds ∷ same-sender ∷ settled ∷ refusals ∷ trust-cascades ∷ down-sender
-    ∷ dead-sender ∷ [])
+    ∷ dead-sender ∷ by-lowest ∷ in-turns ∷ [])
 
 pub known-runs : all-pass table ≡ true
 unfolding ℕ-discrete lines-pass row-passes all-pass every some first-from absent chosen loop bit with
@@ -300,5 +325,6 @@ unfolding ℕ-discrete lines-pass row-passes all-pass every some first-from abse
     appended raised-next due send-ok send-oks fifo-one cascade raised stamped numbered posted
     block body filled checksum ones-sum multicast leave mark hold arrival trust-set crash read has-group
     good-mask refusal step after
-    moves receiver origin kind movable letter-of lowest settle-from settle
+    moves receiver origin kind movable letter-of lowest origin-to kind-to message-to letter-to has-letter served fair
+    settle-from settle
 known-runs = refl

@@ -10,12 +10,13 @@ use borrow.Author.Tests.{ltb-true}
 use Rattle.definitions.specs.General.{pick, gives}
 use Rattle.definitions.specs.World.{size, count, encode, view}
 use Rattle.definitions.specs.Machine.{arrival}
-use Rattle.definitions.specs.Settle.{Choice, letter, nothing, lowest, Ending, done, stopped, settle-from}
+use Rattle.definitions.specs.Settle.{Choice, letter, nothing, Manner, choice, Ending, done, stopped, settle-from}
 use Rattle.definitions.specs.Words.{needs-world, settle-words, settled-words, settle-reply}
 use Rattle.definitions.specs.NothingToCome.{ToCome, SomeToCome, to-come}
 use Rattle.base.specs.Refusals.{reply-gives}
 use Rattle.world.specs.SoundLaws.{Sound, size-high, count-high, letter-facts, origin-low}
-use Rattle.world.specs.StepLaws.{Chosen, lowest-chosen}
+use Rattle.world.specs.StepLaws.{Chosen}
+use Rattle.world.specs.TurnLaws.{choice-chosen}
 use Rattle.world.specs.SettleLaws.{goes-on, NamesLetter, Says, settle-says}
 use Rattle.world.specs.Calls.{settle-taken}
 use Rattle.keeps.specs.Keeps.{SoundWords, taken-sound-words, settled-words-sound}
@@ -27,56 +28,62 @@ come-within u k m q p h (hk, hm, hq, l, z) =
     (ltb-true m (view u count) (f .of), origin-low (view u) (h .reads) k m q p f)
 
 -- ---- the answer
-module _ (w : List ℕ) (b : ℕ) (e : Ending) (says : settle-reply w b ≡ gives e) where
+module _ (o : Manner) (w : List ℕ) (b : ℕ) (e : Ending) (says : settle-reply o w b ≡ gives e) where
   -- the words were a world
-  unrefused : (needs-world w 0 ≡ 0) × (e ≡ settle-words w b .ending)
+  unrefused : (needs-world w 0 ≡ 0) × (e ≡ settle-words o w b .ending)
   unfolding settle-reply
-  unrefused = reply-gives (needs-world w 0) e (settle-words w b .ending) (sym says)
+  unrefused = reply-gives (needs-world w 0) e (settle-words o w b .ending) (sym says)
 
-  pub left-sound : SoundWords (settled-words w b)
-  left-sound = settled-words-sound w b (taken-sound-words w (unrefused .0))
+  pub left-sound : SoundWords (settled-words o w b)
+  left-sound = settled-words-sound o w b (taken-sound-words w (unrefused .0))
 
   -- what it says of the choice that is left
-  left-says : Says (0 + b) (lowest (view (settled-words w b))) e
+  left-says : Says (0 + b) (λ x. choice o x (view (settled-words o w b))) e
   unfolding settle-words
   left-says =
-      subst₂ (λ (u : List ℕ) (x : Ending). Says (0 + b) (lowest (view u)) x) (settle-taken w b (unrefused .0) .1)
+      subst₂ (λ (u : List ℕ) (y : Ending). Says (0 + b) (λ x. choice o x (view u)) y)
+      (settle-taken o w b (unrefused .0) .1)
       (sym (unrefused .1))
-      (settle-says (λ u. lowest (view u)) (λ u k m q p. encode (arrival (view u) k m q p)) b 0 w)
+      (settle-says (λ x u. choice o x (view u)) (λ u k m q p. encode (arrival (view u) k m q p)) b 0 0 w)
 
 -- done: no letter can move
-pub nothing-moves : (w : List ℕ) (b n : ℕ) → settle-reply w b ≡ gives (done n) → Chosen (view (settled-words w b)) nothing
-nothing-moves w b n e =
-    subst (Chosen (view (settled-words w b))) (left-says w b (done n) e) (lowest-chosen (view (settled-words w b)))
+pub nothing-moves : (o : Manner) (w : List ℕ) (b n : ℕ) → settle-reply o w b ≡ gives (done n)
+    → Chosen (view (settled-words o w b)) nothing
+nothing-moves o w b n e =
+    let z = left-says o w b (done n) e in
+    subst (Chosen (view (settled-words o w b))) (z .1) (choice-chosen o (z .0) (view (settled-words o w b)))
 
 -- stopped: the budget is used
-pub all-made : (w : List ℕ) (b n : ℕ) → settle-reply w b ≡ gives (stopped n) → n ≡ b
-all-made w b n e = omega (arith, left-says w b (stopped n) e .0)
+pub all-made : (o : Manner) (w : List ℕ) (b n : ℕ) → settle-reply o w b ≡ gives (stopped n) → n ≡ b
+all-made o w b n e = omega (arith, left-says o w b (stopped n) e .0)
 
 -- and the letter named is in flight to an up process
-pub one-moves : (w : List ℕ) (b n : ℕ) → settle-reply w b ≡ gives (stopped n) → SomeToCome (settled-words w b)
-one-moves w b n e =
-    go (lowest (view (settled-words w b))) (lowest-chosen (view (settled-words w b))) (left-says w b (stopped n) e .1)
+pub one-moves : (o : Manner) (w : List ℕ) (b n : ℕ) → settle-reply o w b ≡ gives (stopped n)
+    → SomeToCome (settled-words o w b)
+one-moves o w b n e =
+    let z = left-says o w b (stopped n) e .1 in
+    let s = view (settled-words o w b) in
+    go (choice o (z .0) s) (choice-chosen o (z .0) s) (z .1)
   where
-    sound : Sound (view (settled-words w b))
-    sound = left-sound w b (stopped n) e .reads
+    sound : Sound (view (settled-words o w b))
+    sound = left-sound o w b (stopped n) e .reads
 
-    go : (c : Choice) → Chosen (view (settled-words w b)) c → NamesLetter c → SomeToCome (settled-words w b)
+    go : (c : Choice) → Chosen (view (settled-words o w b)) c → NamesLetter c → SomeToCome (settled-words o w b)
     go (letter k m q p) a _ =
         let l = a .letter in
         to-come k m q p (
           l .kind,
-          omega (arith, l .message, count-high (view (settled-words w b)) sound),
-          omega (arith, l .from, size-high (view (settled-words w b)) sound),
+          omega (arith, l .message, count-high (view (settled-words o w b)) sound),
+          omega (arith, l .from, size-high (view (settled-words o w b)) sound),
           (l .to, a .live),
           l .flies,
         )
     go nothing a n = elim n [ ]
 
 -- ---- a settle that is allowed no arrival leaves every word, and so only tells whether anything is to come
-pub asked-only : (w : List ℕ) → settled-words w 0 ≡ w
+pub asked-only : (o : Manner) (w : List ℕ) → settled-words o w 0 ≡ w
 unfolding settled-words settle-words settle-from
-asked-only w = unchanged (eqb (needs-world w 0) 0) (lowest (view w))
+asked-only o w = unchanged (eqb (needs-world w 0) 0) (choice o 0 (view w))
   where
     unchanged : (b : Bool) (c : Choice)
         → pick b (goes-on c (λ k m q p. record { world = w; ending = stopped 0 }) w 0 .world) w ≡ w

@@ -11,6 +11,7 @@ use Rattle.definitions.specs.General.{gives, bit}
 use Rattle.definitions.specs.World.{flight, State, view}
 use Rattle.definitions.specs.Machine.{leave}
 use Rattle.definitions.specs.Steps.{loses, read, in-flight, refusal, accepted, step}
+use Rattle.definitions.specs.Settle.{Manner}
 use Rattle.definitions.specs.History.{Run, Item, given, tick, act, run}
 use Rattle.definitions.specs.Words.{making-refusal, step-refusal, settle-reply, on-words, started-words}
 use Rattle.definitions.specs.Demand.{SaysDone, says-done}
@@ -38,13 +39,13 @@ module _ (w setup : List ℕ) (ok : making-refusal w setup ≡ 0) where
   sound-state items = reached-sound setup items (setup-taken w setup ok)
 
   -- ---- the limit
-  pub says-at-limit : (items : List Item) (b : ℕ) → 33792 ≤ b
-      → SaysDone (settle-reply (run on-words (started-words w setup) items .now) b)
-  says-at-limit items b l =
-      rw (ap (λ (u : List ℕ). settle-reply u b) (words-after w setup ok items)
-      ∙ reply-carried (state items) (sound-state items) b
-      ∙ ap gives (reached-settle-done setup items (setup-taken w setup ok) b l))
-      (says-done (arrivals (settle (state items) b .ending)))
+  pub says-at-limit : (o : Manner) (items : List Item) (b : ℕ) → 33792 ≤ b
+      → SaysDone (settle-reply o (run on-words (started-words w setup) items .now) b)
+  says-at-limit o items b l =
+      rw (ap (λ (u : List ℕ). settle-reply o u b) (words-after w setup ok items)
+      ∙ reply-carried o (state items) (sound-state items) b
+      ∙ ap gives (reached-settle-done setup items (setup-taken w setup ok) o b l))
+      (says-done (arrivals (settle o (state items) b .ending)))
 
   -- ---- a letter that is lost
   module _ (bytes : List ℕ) (before after : List Item) (k m q p : ℕ) (reads : read bytes ≡ loses k m q p)

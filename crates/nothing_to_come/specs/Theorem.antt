@@ -12,14 +12,14 @@ use Rattle.nothing_to_come.specs.Lost.{says-at-limit, gone}
 
 pub nothing-to-come : NothingToCome
 nothing-to-come = record {
-  after-done = λ w b n e x. elim x [
+  after-done = λ o w b n e x. elim x [
     | to-come k m q p t ↦
         let (hk, _, _, l, flies) = t in
-        let u = settled-words w b in
-        let low = come-within u k m q p (left-sound w b (done n) e) t in
-        clash flies (none-flies (view u) (nothing-moves w b n e) k m q p hk (low .0) (low .1) (l .0) (l .1))
+        let u = settled-words o w b in
+        let low = come-within u k m q p (left-sound o w b (done n) e) t in
+        clash flies (none-flies (view u) (nothing-moves o w b n e) k m q p hk (low .0) (low .1) (l .0) (l .1))
   ];
-  after-stopped = λ w b n e. (all-made w b n e, one-moves w b n e);
-  within-limit = λ w setup items ok b l. says-at-limit w setup ok items b l;
+  after-stopped = λ o w b n e. (all-made o w b n e, one-moves o w b n e);
+  within-limit = λ o w setup items ok b l. says-at-limit w setup ok o items b l;
   lost-gone = λ w setup bytes before after k m q p ok reads taken. gone w setup ok bytes before after k m q p reads taken;
 }

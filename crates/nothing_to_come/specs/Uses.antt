@@ -8,40 +8,40 @@ use borrow.Author.Tests.{lt-ltb}
 use Rattle.definitions.specs.General.{Reply, gives, bit, every}
 use Rattle.definitions.specs.World.{size, up, flight, view}
 use Rattle.definitions.specs.Steps.{loses, read}
-use Rattle.definitions.specs.Settle.{Ending, done, stopped}
+use Rattle.definitions.specs.Settle.{Ending, done, stopped, Manner}
 use Rattle.definitions.specs.History.{Item, given, run}
 use Rattle.definitions.specs.Words.{making-refusal, step-refusal, settled-words, settle-reply, on-words, started-words}
 use Rattle.definitions.specs.Demand.{SaysDone, says-done}
 use Rattle.definitions.specs.NothingToCome.{SomeToCome, to-come}
 use Rattle.nothing_to_come.specs.Theorem.{nothing-to-come}
 
--- ---- any lent words: what the answer of a settle says of the words that it leaves
-module _ (w : List ℕ) (b n : ℕ) where
+-- ---- any lent words, either settle: what its answer says of the words that it leaves
+module _ (o : Manner) (w : List ℕ) (b n : ℕ) where
   abbrev left : List ℕ
-  left = settled-words w b
+  left = settled-words o w b
 
   -- done: no letter is in flight to a process that is up, wherever it comes from
-  pub none-in-flight : settle-reply w b ≡ gives (done n) → (k m q p : ℕ) → k < 3 → m < 64 → q < 16
+  pub none-in-flight : settle-reply o w b ≡ gives (done n) → (k m q p : ℕ) → k < 3 → m < 64 → q < 16
       → p < view left size → view left (up p) ≡ 1 → bit (view left (flight m k q)) p ≡ false
   none-in-flight e k m q p hk hm hq hp u = go (bit (view left (flight m k q)) p) refl
     where
       go : (x : Bool) → bit (view left (flight m k q)) p ≡ x → x ≡ false
       go false z = refl
-      go true z = absurd (nothing-to-come .after-done w b n e (to-come k m q p (hk, hm, hq, (hp, u), z)))
+      go true z = absurd (nothing-to-come .after-done o w b n e (to-come k m q p (hk, hm, hq, (hp, u), z)))
 
   -- stopped: the budget is used
-  pub budget-used : settle-reply w b ≡ gives (stopped n) → n ≡ b
-  budget-used e = nothing-to-come .after-stopped w b n e .0
+  pub budget-used : settle-reply o w b ≡ gives (stopped n) → n ≡ b
+  budget-used e = nothing-to-come .after-stopped o w b n e .0
 
   -- and a letter is in flight to a process that is up
-  pub one-in-flight : settle-reply w b ≡ gives (stopped n)
+  pub one-in-flight : settle-reply o w b ≡ gives (stopped n)
       → (k : ℕ) × (m : ℕ) × (q : ℕ) × (p : ℕ) × (k < 3) × (m < 64) × (q < 16) × (p < view left size)
       × (view left (up p) ≡ 1) × (bit (view left (flight m k q)) p ≡ true)
-  one-in-flight e = go (nothing-to-come .after-stopped w b n e .1)
+  one-in-flight e = go (nothing-to-come .after-stopped o w b n e .1)
     where
-      go : SomeToCome (settled-words w b)
-          → (k : ℕ) × (m : ℕ) × (q : ℕ) × (p : ℕ) × (k < 3) × (m < 64) × (q < 16) × (p < view (settled-words w b) size)
-          × (view (settled-words w b) (up p) ≡ 1) × (bit (view (settled-words w b) (flight m k q)) p ≡ true)
+      go : SomeToCome (settled-words o w b)
+          → (k : ℕ) × (m : ℕ) × (q : ℕ) × (p : ℕ) × (k < 3) × (m < 64) × (q < 16) × (p < view (settled-words o w b) size)
+          × (view (settled-words o w b) (up p) ≡ 1) × (bit (view (settled-words o w b) (flight m k q)) p ≡ true)
       go (to-come k m q p (hk, hm, hq, (hp, u), z)) = (k, m, q, p, hk, hm, hq, hp, u, z)
 
 -- ---- after a list of items from a fresh world
@@ -53,14 +53,15 @@ module _ (w setup : List ℕ) (taken : making-refusal w setup ≡ 0) where
   after items = run on-words (started-words w setup) items .now
 
   -- a settle allowed 33,792 arrivals says done, and nothing is left to come to a process that is up
-  pub at-limit : (items : List Item) (b : ℕ) → 33792 ≤ b → (n : ℕ) × (settle-reply (after items) b ≡ gives (done n))
-  at-limit items b l = answer (nothing-to-come .within-limit w setup items taken b l)
+  pub at-limit : (o : Manner) (items : List Item) (b : ℕ) → 33792 ≤ b
+      → (n : ℕ) × (settle-reply o (after items) b ≡ gives (done n))
+  at-limit o items b l = answer (nothing-to-come .within-limit o w setup items taken b l)
 
-  pub none-at-limit : (items : List Item) (b : ℕ) → 33792 ≤ b → (k m q p : ℕ) → k < 3 → m < 64 → q < 16
-      → p < view (settled-words (after items) b) size → view (settled-words (after items) b) (up p) ≡ 1
-      → bit (view (settled-words (after items) b) (flight m k q)) p ≡ false
-  none-at-limit items b l =
-      let (n, e) = at-limit items b l in none-in-flight (after items) b n e
+  pub none-at-limit : (o : Manner) (items : List Item) (b : ℕ) → 33792 ≤ b → (k m q p : ℕ) → k < 3 → m < 64 → q < 16
+      → p < view (settled-words o (after items) b) size → view (settled-words o (after items) b) (up p) ≡ 1
+      → bit (view (settled-words o (after items) b) (flight m k q)) p ≡ false
+  none-at-limit o items b l =
+      let (n, e) = at-limit o items b l in none-in-flight o (after items) b n e
 
   -- a letter whose loss was taken is in flight no more, whatever steps and settles follow
   pub lost-for-good : (before more : List Item) (k m q p : ℕ) → k < 3

@@ -11,7 +11,7 @@ use Rattle.definitions.specs.World.{size, causal-length, State, encode, view, i
 use Rattle.definitions.specs.Setup.{fresh, made}
 use Rattle.definitions.specs.Machine.{arrival}
 use Rattle.definitions.specs.Steps.{Step, multicasts, arrives, loses, trusts, crashes, malformed, read, refusal, accepted, step}
-use Rattle.definitions.specs.Settle.{moves, receiver, origin, kind, movable, letter-of, lowest}
+use Rattle.definitions.specs.Settle.{moves, receiver, origin, kind, movable, letter-of, lowest, origin-to, kind-to, message-to, letter-to, has-letter, served, fair, Manner, lowest-first, by-turns, choice}
 use Rattle.definitions.specs.History.{Event, grown, gained, casted, Run, Item, given, settling, taken, tick, settles, act, run}
 use Rattle.definitions.specs.Words.{making-refusal, step-refusal, settle-reply, log-length, log-words, on-words, started-words}
 use Rattle.definitions.specs.OrderNumbers.{erased, erased-words, erased-step, erased-bytes, erased-items, Apart}
@@ -59,9 +59,11 @@ taken-erased r x =
     (gained-erased (s size) s (step s x) (casted x s (r .seen)))
 
 -- the letter that settle chooses
-lowest-erased : (s : State) → lowest (erased s) ≡ lowest s
-unfolding erased lowest movable letter-of kind origin receiver moves
-lowest-erased s = refl
+choice-erased : (h : Manner) (x : ℕ) (s : State) → choice h x (erased s) ≡ choice h x s
+unfolding erased lowest movable letter-of kind origin receiver moves fair served has-letter letter-to message-to kind-to
+    origin-to
+choice-erased lowest-first x s = refl
+choice-erased by-turns x s = refl
 
 -- an item
 tick-erased : (r : Run State) (x : Step)
@@ -76,15 +78,15 @@ tick-erased r x =
     go true = refl
     go false = refl
 
-settles-erased : (r : Run State) (b : ℕ)
-    → settles on-states (erased-run r) b ≡ erased-run (settles on-states r b)
+settles-erased : (h : Manner) (r : Run State) (b : ℕ)
+    → settles on-states h (erased-run r) b ≡ erased-run (settles on-states h r b)
 unfolding settles
-settles-erased r b =
-    settle-related (λ t. lowest (t .now)) (λ t k m q p. taken on-states t (arrives k m q p))
-    (λ t. lowest (t .now)) (λ t k m q p. taken on-states t (arrives k m q p)) (λ t u. u ≡ erased-run t)
-    (λ t u e. sym (ap (λ (v : Run State). lowest (v .now)) e ∙ lowest-erased (t .now)))
-    (λ t u k m q p e _. ap (λ (v : Run State). taken on-states v (arrives k m q p)) e
-    ∙ taken-erased t (arrives k m q p)) b 0 r (erased-run r) refl
+settles-erased h r b =
+    settle-related (λ x t. choice h x (t .now)) (λ t k m q p. taken on-states t (arrives k m q p))
+    (λ x t. choice h x (t .now)) (λ t k m q p. taken on-states t (arrives k m q p)) (λ t u. u ≡ erased-run t)
+    (λ x t u e. sym (ap (λ (v : Run State). choice h x (v .now)) e ∙ choice-erased h x (t .now)))
+    (λ x t u k m q p e _. ap (λ (v : Run State). taken on-states v (arrives k m q p)) e
+    ∙ taken-erased t (arrives k m q p)) b 0 0 r (erased-run r) refl
     .worlds
 
 -- a list
@@ -96,9 +98,9 @@ run-erased r (given bytes ∷ is) =
     ap (λ (t : Run State). run on-states t (erased-items is))
     (ap (tick on-states (erased-run r)) (read-erased bytes) ∙ tick-erased r (read bytes))
     ∙ run-erased (tick on-states r (read bytes)) is
-run-erased r (settling b ∷ is) =
-    ap (λ (t : Run State). run on-states t (erased-items is)) (settles-erased r b)
-    ∙ run-erased (settles on-states r b) is
+run-erased r (settling h b ∷ is) =
+    ap (λ (t : Run State). run on-states t (erased-items is)) (settles-erased h r b)
+    ∙ run-erased (settles on-states h r b) is
 
 -- ---- words
 -- the words of a state erased are those of the state erased
@@ -135,16 +137,16 @@ module _ (s : State) (h : Sound s) (z : Sound (erased s)) where
       refusal-carried (erased s) z (erased-bytes bytes) ∙ ap (refusal (erased s)) (read-erased bytes)
       ∙ refusal-erased s (read bytes) ∙ sym (refusal-carried s h bytes)
 
-  pub settles-same : (b : ℕ) → settle-reply (encode (erased s)) b ≡ settle-reply (encode s) b
+  pub settles-same : (o : Manner) (b : ℕ) → settle-reply o (encode (erased s)) b ≡ settle-reply o (encode s) b
   unfolding settle step
-  settles-same b =
-      reply-carried (erased s) z b ∙ ap gives (sym alike) ∙ sym (reply-carried s h b)
+  settles-same o b =
+      reply-carried o (erased s) z b ∙ ap gives (sym alike) ∙ sym (reply-carried o s h b)
     where
-      alike : settle s b .ending ≡ settle (erased s) b .ending
+      alike : settle o s b .ending ≡ settle o (erased s) b .ending
       alike =
-          settle-related lowest arrival lowest arrival (λ t u. u ≡ erased t)
-          (λ t u e. sym (ap lowest e ∙ lowest-erased t))
-          (λ t u k m q p e _. ap (λ (v : State). arrival v k m q p) e ∙ step-erased t (arrives k m q p)) b 0 s
+          settle-related (choice o) arrival (choice o) arrival (λ t u. u ≡ erased t)
+          (λ x t u e. sym (ap (choice o x) e ∙ choice-erased o x t))
+          (λ x t u k m q p e _. ap (λ (v : State). arrival v k m q p) e ∙ step-erased t (arrives k m q p)) b 0 0 s
           (erased s) refl
           .endings
 

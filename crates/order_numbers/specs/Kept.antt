@@ -15,7 +15,7 @@ use Rattle.definitions.specs.World.{size, count, order, State, put, encode, vie
 use Rattle.definitions.specs.Setup.{fresh, made}
 use Rattle.definitions.specs.Machine.{with-tables, raised, stamped, numbered, posted, multicast}
 use Rattle.definitions.specs.Steps.{multicasts, arrives, read, accepted, step}
-use Rattle.definitions.specs.Settle.{lowest}
+use Rattle.definitions.specs.Settle.{Manner, choice}
 use Rattle.definitions.specs.History.{Event, sent, Run, Item, given, settling, taken, tick, settles, act, run}
 use Rattle.definitions.specs.Words.{making-refusal, order-refusal, order-reply, on-words, started-words}
 use Rattle.definitions.specs.OrderNumbers.{Carries, carries}
@@ -97,12 +97,12 @@ data Split (r : Run State) (items : List Item) (m : ℕ) : Type 0 where
       → Split r items m
 
 -- a settle brings none
-settle-count : (r : Run State) (b : ℕ) → settles on-states r b .now count ≡ r .now count
+settle-count : (h : Manner) (r : Run State) (b : ℕ) → settles on-states h r b .now count ≡ r .now count
 unfolding settles step
-settle-count r b =
-    settle-keeps (λ t. lowest (t .now)) (λ t k m q p. taken on-states t (arrives k m q p))
+settle-count h r b =
+    settle-keeps (λ x t. choice h x (t .now)) (λ t k m q p. taken on-states t (arrives k m q p))
     (λ t. t .now count ≡ r .now count)
-    (λ t k m q p _ e. ap (λ (z : ℕ × (ℕ → ℕ)). z .0) (arrival-numbers (t .now) k m q p) ∙ e) b 0 r refl
+    (λ x t k m q p _ e. ap (λ (z : ℕ × (ℕ → ℕ)). z .0) (arrival-numbers (t .now) k m q p) ∙ e) b 0 0 r refl
 
 -- the first item brings it
 first : (r : Run State) (i : Item) (is : List Item) (m : ℕ) → r .now count ≤ m
@@ -116,7 +116,7 @@ first r (given bytes) is m a l = go (accepted (r .now) (read bytes)) refl (step-
     go true e (one-more p groups o q c z f) l = split [] is bytes p groups o refl q e (omega arith)
     go true e (none q) l = absurd (omega (arith, ap (λ (z : ℕ × (ℕ → ℕ)). z .0) q))
     go false e x l = absurd (omega arith)
-first r (settling b) is m a l = absurd (omega (arith, settle-count r b))
+first r (settling h b) is m a l = absurd (omega (arith, settle-count h r b))
 
 -- a later one does
 later : (r : Run State) (i : Item) (is : List Item) (m : ℕ) → Split (act on-states r i) is m

@@ -9,6 +9,7 @@ use Prim.Native.Nat.{ℕ, _+_, _*_}
 use Rattle.definitions.specs.General.{every, tab-from, tabulate, gives}
 use Rattle.definitions.specs.World.{State}
 use Rattle.definitions.specs.Steps.{Step, multicasts, arrives, loses, trusts, crashes, malformed, read, refusal, step}
+use Rattle.definitions.specs.Settle.{Manner}
 use Rattle.definitions.specs.History.{Event, sent, Run, Item, given, settling, act, run}
 use Rattle.definitions.specs.Words.{making-refusal, step-refusal, settle-reply, log-words, order-reply, on-words, started-words}
 use Rattle.definitions.specs.Journal.{journal-refusal, records-of}
@@ -33,7 +34,7 @@ unfolding erased-items
 erased-append [] js = refl
 erased-append (given bytes ∷ is) js =
     ap (λ (l : List Item). given (erased-bytes bytes) ∷ l) (erased-append is js)
-erased-append (settling b ∷ is) js = ap (λ (l : List Item). settling b ∷ l) (erased-append is js)
+erased-append (settling h b ∷ is) js = ap (λ (l : List Item). settling h b ∷ l) (erased-append is js)
 
 -- ---- bytes and steps, in any state
 -- bytes that are malformed with zeros there are malformed
@@ -150,8 +151,8 @@ module _ (w setup : List ℕ) (taken : making-refusal w setup ≡ 0) where
         → log-words (after (erased-items items) .now) p log ≡ log-words (after items .now) p log
     zeros-logs = order-numbers .run-apart w setup items taken .logs
 
-    pub zeros-settles : (b : ℕ)
-        → settle-reply (after (erased-items items) .now) b ≡ settle-reply (after items .now) b
+    pub zeros-settles : (h : Manner) (b : ℕ)
+        → settle-reply h (after (erased-items items) .now) b ≡ settle-reply h (after items .now) b
     zeros-settles = order-numbers .run-apart w setup items taken .settles
 
     pub zeros-answers : (bytes : List ℕ)
@@ -201,10 +202,10 @@ module _ (w setup : List ℕ) (taken : making-refusal w setup ≡ 0) where
         both (λ is. log-words (after is .now) p log) (λ is. log-words (after is .now) p log)
         (λ is. zeros-logs is p log)
 
-    pub same-settles : (b : ℕ) → settle-reply (after items .now) b ≡ settle-reply (after others .now) b
-    same-settles b =
-        both (λ is. settle-reply (after is .now) b) (λ is. settle-reply (after is .now) b)
-        (λ is. zeros-settles is b)
+    pub same-settles : (h : Manner) (b : ℕ) → settle-reply h (after items .now) b ≡ settle-reply h (after others .now) b
+    same-settles h b =
+        both (λ is. settle-reply h (after is .now) b) (λ is. settle-reply h (after is .now) b)
+        (λ is. zeros-settles is h b)
 
     pub same-answers : (bytes : List ℕ)
         → step-refusal (after items .now) bytes ≡ step-refusal (after others .now) bytes

@@ -12,6 +12,7 @@ use Rattle.definitions.specs.General.{needs, gives, refuses, reply, absent}
 use Rattle.definitions.specs.World.{size, count, addr, encode, view, is-message}
 use Rattle.definitions.specs.Sound.{sound}
 use Rattle.definitions.specs.Steps.{read, refusal, after}
+use Rattle.definitions.specs.Settle.{Manner}
 use Rattle.definitions.specs.Words.{needs-world, step-refusal, stepped-words, settled-words, settle-reply, log-length, log-start, log-refusal, log-words, length-reply, is-waiting, awaited-refusal, good-lengths, precedes-refusal, precedes-bytes, different, precedes-reply}
 use Rattle.base.specs.Refusals.{needs-none, reply-gives}
 use Rattle.base.specs.Count.{tally-le}
@@ -59,10 +60,10 @@ pub step-taken : (w bytes u : List ℕ) (r : ℕ) → SoundWords w
 step-taken w bytes u r h e f = (e ∙ sym (sound-refusal w bytes h), f ∙ sound-stepped w bytes h)
 
 -- ---- settle
-pub settle-refused : (w : List ℕ) (b r : ℕ) → (r ≡ 0 → ⊥) → r ≡ needs-world w 0
-    → (refuses r ≡ settle-reply w b) × (w ≡ settled-words w b)
+pub settle-refused : (o : Manner) (w : List ℕ) (b r : ℕ) → (r ≡ 0 → ⊥) → r ≡ needs-world w 0
+    → (refuses r ≡ settle-reply o w b) × (w ≡ settled-words o w b)
 unfolding settle-reply settled-words
-settle-refused w b r n e = (rw (← e, ne-eqb r 0 n), rw (← e, ne-eqb r 0 n))
+settle-refused o w b r n e = (rw (← e, ne-eqb r 0 n), rw (← e, ne-eqb r 0 n))
 
 -- ---- a process or a message that is named
 -- 1, 2, then n where i is not below the word at a

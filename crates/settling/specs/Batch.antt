@@ -21,7 +21,7 @@ use Rattle.letters.specs.Places.{Passed, lowest-before, from-message, from-kind
 use Rattle.letters.specs.Search.{waiting, waiting-bit, waiting-above, lowest-found}
 use Rattle.letters.specs.declared.Place.{Place}
 use Rattle.quiescence.specs.Quiescent.{arrival-size, arrival-count, arrival-up}
-use Rattle.settling.specs.Settling.{Going, arrive-words, settling-from, settle-more, rested-known, letter-within}
+use Rattle.settling.specs.Settling.{Going, arrive-words, lowest-from, lowest-more, rested-known, letter-within}
 use Rattle.world.specs.Layout.{reads-cell, put-same, Within}
 use Rattle.definitions.specs.Machine.{leave, mark, arrival}
 use Rattle.definitions.specs.Settle.{letter, lowest, moves, receiver, origin, kind, movable}
@@ -147,7 +147,7 @@ pub record Batched (w₀ w x : List ℕ) (live mask made₀ made budget : ℕ) (
   pub going : Going w live mask place
   pub index : Index (view w) x
   pub most : made ≤ budget
-  pub same : settling-from (budget - made₀) made₀ w₀ ≡ settling-from (budget - made) made w
+  pub same : lowest-from (budget - made₀) made₀ w₀ ≡ lowest-from (budget - made) made w
 
 pub batched-more : {w₀ w u x y : List ℕ} {live mask mask′ made₀ made budget k m q p r : ℕ} {place place′ : Place}
     → Batched w₀ w x live mask made₀ made budget place → made < budget → lowest (view w) ≡ letter k m q p
@@ -157,7 +157,7 @@ batched-more {w₀} {w} {u} {x} {y} {live} {mask} {mask′} {made₀} {made} {bu
   going = going-next (b .going) e eu s em ea;
   index = z;
   most = omega arith;
-  same = b .same ∙ settle-more budget made w k m q p l e ∙ ap (settling-from (budget - (made + 1)) (made + 1)) (sym eu);
+  same = b .same ∙ lowest-more budget made w k m q p l e ∙ ap (lowest-from (budget - (made + 1)) (made + 1)) (sym eu);
 }
 
 -- ---- the loop of a batch: what it leaves, so far, and the receivers left
@@ -202,7 +202,7 @@ module _ {w₀ w x : List ℕ} {live k m q receivers made₀ budget left mask ma
   pub sending-arrives : {known : Bool} → known ≡ bit mask p → Arrives w x k m q p known
   sending-arrives {known} e =
       let g = h .batched .going in
-      let a = letter-within w k m q p (g .sound) sending-found in
+      let a = letter-within w k m q p (g .sound) (lowest-moves (view w) k m q p sending-found) in
       record {
         long = g .sound .long;
         kind = a .0;
@@ -224,7 +224,7 @@ module _ {w₀ w x : List ℕ} {live k m q receivers made₀ budget left mask ma
     pub sending-more : {next : ℕ} → m * 48 + k * 16 + q < r → next ≡ without left p
         → Sending w₀ u y live k m q receivers made₀ budget next mask′ (made + 1)
     sending-more {next} l en =
-        let g = letter-within w k m q p (h .batched .going .sound) sending-found in
+        let g = letter-within w k m q p (h .batched .going .sound) (lowest-moves (view w) k m q p sending-found) in
         record {
           batched = batched-more (h .batched) more sending-found (a .words) (a .silent) em
               (sym (next-same k m q r (omega arith))) (a .index);

@@ -136,9 +136,9 @@ going-next {w} {u} {k} {m} {q} {p} {live} {mask} {mask′} {r} {at} {at′} g e 
     subst (λ (y : List ℕ). Silent (marked-of (view w) k m q p) (view y) r) eu silent in
     let on : Going v live (with mask p) (next-at k m q r) =
     record {
-      sound = arrived-sound w k m q p (g .sound) e;
+      sound = arrived-sound w k m q p (g .sound) (lowest-moves (view w) k m q p e);
       ups = still-up (view w) (view v) k m q p (g .sound .reads) (get-encode t) live (g .ups);
-      rested = rested-on w k m q p mask (g .sound) e (g .rested);
+      rested = rested-on w k m q p (g .sound) (lowest-moves (view w) k m q p e) mask (g .rested);
       passed = passed-next (view w) (view v) k m q p r (g .sound .reads) e (get-encode t) z;
     } in
     subst (Going u live mask′) (sym ea)

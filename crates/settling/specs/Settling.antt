@@ -1,5 +1,5 @@
--- Settle as its loop goes: a letter more arrives, or there is none, or the budget is used up. What holds of a sound
--- world holds of it after each arrival. Assumes nothing.
+-- Settle as its loop goes, of either manner: a letter more arrives, or there is none, or the budget is used up. What holds
+-- of a sound world holds of it after each arrival. Assumes nothing.
 use mathlib.Core.Path.{_≡_, refl, sym, ap, _∙_}
 use mathlib.Core.Bool.{Bool, true, false}
 use mathlib.Core.Logic.{_⊎_, inl, inr}
@@ -10,13 +10,13 @@ use Rattle.definitions.specs.General.{bit, with, mask-of}
 use Rattle.definitions.specs.World.{size, count, State, encode, view}
 use Rattle.definitions.specs.Machine.{arrival}
 use Rattle.definitions.specs.Steps.{arrives, step, is-up}
-use Rattle.definitions.specs.Settle.{Choice, letter, nothing, done, stopped, Settled, lowest, settle-from}
+use Rattle.definitions.specs.Settle.{Choice, letter, nothing, done, stopped, Settled, lowest, Manner, lowest-first, choice, settle-from}
 use Rattle.base.specs.Tests.{clash}
 use Rattle.base.specs.Bits.{bit-zero, with-cases}
 use Rattle.world.specs.SoundLaws.{size-high, count-high, sound-words}
 use Rattle.world.specs.Layout.{length-encode}
-use Rattle.world.specs.SettleLaws.{goes-on}
-use Rattle.world.specs.StepLaws.{moves-taken, lowest-moves}
+use Rattle.world.specs.SettleLaws.{goes-on, turn-free}
+use Rattle.world.specs.StepLaws.{Arrives, moves-taken}
 use Rattle.keeps.specs.Keeps.{SoundWords, step-sound}
 use Rattle.quiescence.specs.Quiescent.{Quiescent, QuiescentIf, arrival-quiescent}
 use Rattle.bounds.specs.Bounds.{sound-bounds}
@@ -25,39 +25,51 @@ use Rattle.letters.specs.Places.{Passed, start-passed}
 use Rattle.letters.specs.declared.Place.{Place}
 
 -- The choice and the arrival, on words.
-abbrev pub choose-words : List ℕ → Choice
-choose-words w = lowest (view w)
+abbrev pub choose-words : Manner → ℕ → List ℕ → Choice
+choose-words o t w = choice o t (view w)
 
 abbrev pub arrive-words : List ℕ → ℕ → ℕ → ℕ → ℕ → List ℕ
 arrive-words w k m q p = encode (arrival (view w) k m q p)
 
--- Settle from words w, with b arrivals left and n made.
-abbrev pub settling-from : ℕ → ℕ → List ℕ → Settled (List ℕ)
-settling-from b n w = settle-from choose-words arrive-words b n w
+-- Settle from words w, with b arrivals left and n made, in the turn of t.
+abbrev pub settling-from : Manner → ℕ → ℕ → ℕ → List ℕ → Settled (List ℕ)
+settling-from o b n t w = settle-from (choose-words o) arrive-words b n t w
 
-pub settle-more : (b n : ℕ) (w : List ℕ) (k m q p : ℕ) → n < b → lowest (view w) ≡ letter k m q p
-    → settling-from (b - n) n w ≡ settling-from (b - (n + 1)) (n + 1) (arrive-words w k m q p)
-unfolding settle-from
-settle-more b n w k m q p h e =
-    let left : b - n ≡ suc (b - (n + 1)) = omega arith in
-    ap (λ (x : ℕ). settling-from x n w) left
-    ∙ ap (λ (c : Choice). goes-on c (λ k m q p. settling-from (b - (n + 1)) (n + 1) (arrive-words w k m q p)) w n) e
+module _ (o : Manner) where
+  pub settle-more : (b n t : ℕ) (w : List ℕ) (k m q p : ℕ) → n < b → choice o t (view w) ≡ letter k m q p
+      → settling-from o (b - n) n t w ≡ settling-from o (b - (n + 1)) (n + 1) (p + 1) (arrive-words w k m q p)
+  unfolding settle-from
+  settle-more b n t w k m q p h e =
+      let left : b - n ≡ suc (b - (n + 1)) = omega arith in
+      ap (λ (x : ℕ). settling-from o x n t w) left
+      ∙ ap (λ (c : Choice). goes-on c
+      (λ k m q p. settling-from o (b - (n + 1)) (n + 1) (p + 1) (arrive-words w k m q p)) w n) e
 
-pub settle-done : (b n : ℕ) (w : List ℕ) → lowest (view w) ≡ nothing
-    → settling-from b n w ≡ record { world = w; ending = done n }
-unfolding settle-from
-settle-done zero n w e =
-    ap (λ (c : Choice). goes-on c (λ k m q p. record { world = w; ending = stopped n }) w n) e
-settle-done (suc b) n w e =
-    ap (λ (c : Choice). goes-on c (λ k m q p. settling-from b (n + 1) (arrive-words w k m q p)) w n) e
+  pub settle-done : (b n t : ℕ) (w : List ℕ) → choice o t (view w) ≡ nothing
+      → settling-from o b n t w ≡ record { world = w; ending = done n }
+  unfolding settle-from
+  settle-done zero n t w e =
+      ap (λ (c : Choice). goes-on c (λ k m q p. record { world = w; ending = stopped n }) w n) e
+  settle-done (suc b) n t w e =
+      ap (λ (c : Choice). goes-on c (λ k m q p. settling-from o b (n + 1) (p + 1) (arrive-words w k m q p)) w n) e
 
-pub settle-stopped : (b n : ℕ) (w : List ℕ) (k m q p : ℕ) → b ≤ n → lowest (view w) ≡ letter k m q p
-    → settling-from (b - n) n w ≡ record { world = w; ending = stopped n }
-unfolding settle-from
-settle-stopped b n w k m q p h e =
-    let left : b - n ≡ 0 = omega arith in
-    ap (λ (x : ℕ). settling-from x n w) left
-    ∙ ap (λ (c : Choice). goes-on c (λ k m q p. record { world = w; ending = stopped n }) w n) e
+  pub settle-stopped : (b n t : ℕ) (w : List ℕ) (k m q p : ℕ) → b ≤ n → choice o t (view w) ≡ letter k m q p
+      → settling-from o (b - n) n t w ≡ record { world = w; ending = stopped n }
+  unfolding settle-from
+  settle-stopped b n t w k m q p h e =
+      let left : b - n ≡ 0 = omega arith in
+      ap (λ (x : ℕ). settling-from o x n t w) left
+      ∙ ap (λ (c : Choice). goes-on c (λ k m q p. record { world = w; ending = stopped n }) w n) e
+
+-- With the lowest letter first it is nobody's turn.
+abbrev pub lowest-from : ℕ → ℕ → List ℕ → Settled (List ℕ)
+lowest-from b n w = settling-from lowest-first b n 0 w
+
+pub lowest-more : (b n : ℕ) (w : List ℕ) (k m q p : ℕ) → n < b → lowest (view w) ≡ letter k m q p
+    → lowest-from (b - n) n w ≡ lowest-from (b - (n + 1)) (n + 1) (arrive-words w k m q p)
+lowest-more b n w k m q p h e =
+    settle-more lowest-first b n 0 w k m q p h e
+    ∙ turn-free (λ u. lowest (view u)) arrive-words (b - (n + 1)) (n + 1) (p + 1) 0 (arrive-words w k m q p)
 
 -- ---- the processes of a mask are quiescent
 abbrev pub Rested : ℕ → State → Type 0
@@ -71,46 +83,42 @@ pub rested-known : (mask : ℕ) (s : State) (p : ℕ) (b : Bool) → Rested mask
 rested-known mask s p true h l e = h p l (sym e)
 rested-known mask s p false h l e = tt
 
--- ---- a sound world
--- the lowest letter is one of the world's
-pub letter-within : (w : List ℕ) (k m q p : ℕ) → SoundWords w → lowest (view w) ≡ letter k m q p
-    → (k < 3) × (m < 64) × (q < 16) × (p < 16) × (m < view w count)
-letter-within w k m q p h e =
-    let a = lowest-moves (view w) k m q p e .letter in (
-      a .kind,
-      omega (arith, a .message, count-high (view w) (h .reads)),
-      omega
-          (arith, a .from, size-high (view w) (h .reads)),
-      omega (arith, a .to, size-high (view w) (h .reads)),
-      a .message,
-    )
+-- ---- a sound world, and a letter that can move
+module _ (w : List ℕ) (k m q p : ℕ) (h : SoundWords w) (a : Arrives (view w) k m q p) where
+  -- it is one of the world's
+  pub letter-within : (k < 3) × (m < 64) × (q < 16) × (p < 16) × (m < view w count)
+  letter-within =
+      let l = a .letter in (
+        l .kind,
+        omega (arith, l .message, count-high (view w) (h .reads)),
+        omega (arith, l .from, size-high (view w) (h .reads)),
+        omega (arith, l .to, size-high (view w) (h .reads)),
+        l .message,
+      )
 
--- and after its arrival the world is sound
-pub arrived-sound : (w : List ℕ) (k m q p : ℕ) → SoundWords w → lowest (view w) ≡ letter k m q p
-    → SoundWords (arrive-words w k m q p)
-unfolding step
-arrived-sound w k m q p h e =
-    let s : State = arrival (view w) k m q p in
-    let a = moves-taken (view w) k m q p (lowest-moves (view w) k m q p e) in
-    record {
-      long = length-encode s;
-      reads = sound-words (encode s) s refl (step-sound (view w) (arrives k m q p) a (h .reads));
-    }
+  -- after its arrival the world is sound
+  pub arrived-sound : SoundWords (arrive-words w k m q p)
+  unfolding step
+  arrived-sound =
+      let s : State = arrival (view w) k m q p in
+      record {
+        long = length-encode s;
+        reads = sound-words (encode s) s refl
+            (step-sound (view w) (arrives k m q p) (moves-taken (view w) k m q p a) (h .reads));
+      }
 
--- its receiver is quiescent, and whoever was
-pub rested-on : (w : List ℕ) (k m q p mask : ℕ) → SoundWords w → lowest (view w) ≡ letter k m q p
-    → Rested mask (view w) → Rested (with mask p) (view (arrive-words w k m q p))
-unfolding step
-rested-on w k m q p mask h e old r l b =
-    let s : State = arrival (view w) k m q p in
-    let a = lowest-moves (view w) k m q p e in
-    let sound = step-sound (view w) (arrives k m q p) (moves-taken (view w) k m q p a) (h .reads) in
-    quiescent-words s r (sound-bounds s sound) l
-    (arrival-quiescent (view w) k m q p (h .reads) (a .letter) r (λ d. before d (with-cases mask p r b)))
-  where
-    before : (p ≡ r → ⊥) → (bit mask r ≡ true) ⊎ (p ≡ r) → Quiescent (view w) r
-    before d (inl b) = old r l b
-    before d (inr z) = absurd (d z)
+  -- its receiver is quiescent, and whoever was
+  pub rested-on : (mask : ℕ) → Rested mask (view w) → Rested (with mask p) (view (arrive-words w k m q p))
+  unfolding step
+  rested-on mask old r l b =
+      let s : State = arrival (view w) k m q p in
+      let sound = step-sound (view w) (arrives k m q p) (moves-taken (view w) k m q p a) (h .reads) in
+      quiescent-words s r (sound-bounds s sound) l
+      (arrival-quiescent (view w) k m q p (h .reads) (a .letter) r (λ d. before d (with-cases mask p r b)))
+    where
+      before : (p ≡ r → ⊥) → (bit mask r ≡ true) ⊎ (p ≡ r) → Quiescent (view w) r
+      before d (inl b) = old r l b
+      before d (inr z) = absurd (d z)
 
 -- ---- what the loop of settle keeps of words w: a mask of the up processes, one of quiescent processes, and a place
 pub record Going (w : List ℕ) (live mask : ℕ) (at : Place) : Type 0 where

@@ -10,6 +10,7 @@ ghost use Prim.Native.Nat.{_<_};
 ghost use Rattle.index.specs.Index.{Index};
 ghost use Rattle.definitions.specs.World.{view, size, count};
 ghost use Rattle.definitions.specs.General.{gives};
+ghost use Rattle.definitions.specs.Settle.{lowest-first};
 ghost use Rattle.definitions.specs.Words.{settle-words};
 ghost use Rattle.definitions.specs.Answers.{settling-reply};
 ghost use Rattle.keeps.specs.Keeps.{SoundWords};
@@ -98,8 +99,8 @@ fn batch(
 // Makes at most `budget` arrivals in a sound world, each of the lowest letter, in batches.
 pub fn settle_sound(w: &mut [u16], x: &mut [u64], budget: u32) -> Settling
     requires { ⌜ SoundWords (now w) × Index (view (now w)) (now x) ⌝ }
-    ensures answer { λ r. ⌜ settling-reply r ≡ gives (settle-words (now (w .entry)) budget .ending) ⌝ }
-    ensures words { λ _. ⌜ now (w .exit) ≡ settle-words (now (w .entry)) budget .world ⌝ }
+    ensures answer { λ r. ⌜ settling-reply r ≡ gives (settle-words lowest-first (now (w .entry)) budget .ending) ⌝ }
+    ensures words { λ _. ⌜ now (w .exit) ≡ settle-words lowest-first (now (w .entry)) budget .world ⌝ }
 {
     let up = letters::up_mask(w);
     let mut quiescent: u16 = 0;

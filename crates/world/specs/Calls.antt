@@ -11,7 +11,7 @@ use Rattle.definitions.specs.General.{pick, needs, unless-refused, gives}
 use Rattle.definitions.specs.World.{State, view}
 use Rattle.definitions.specs.Sound.{sound}
 use Rattle.definitions.specs.Steps.{Step, arrives, read, refusal, accepted, step, after}
-use Rattle.definitions.specs.Settle.{lowest, Settled, settle-from}
+use Rattle.definitions.specs.Settle.{Settled, Manner, choice, settle-from}
 use Rattle.definitions.specs.History.{Run, Item, given, settling, taken, tick, settles, act, run}
 use Rattle.definitions.specs.Words.{needs-world, making-refusal, made-words, step-words, step-refusal, stepped-words, settle-words, settled-words, settle-reply, preview-refusal, previewed-words, on-words}
 use Rattle.world.specs.SettleLaws.{settle-related}
@@ -28,15 +28,15 @@ pub making-refused : (w bytes : List ℕ) → (making-refusal w bytes ≡ 0 → 
 unfolding made-words
 making-refused w bytes h = refused-same (making-refusal w bytes) _ w h
 
-pub settle-refused : (w : List ℕ) (b : ℕ) → (needs-world w 0 ≡ 0 → ⊥) → settled-words w b ≡ w
+pub settle-refused : (o : Manner) (w : List ℕ) (b : ℕ) → (needs-world w 0 ≡ 0 → ⊥) → settled-words o w b ≡ w
 unfolding settled-words
-settle-refused w b h = refused-same (needs-world w 0) _ w h
+settle-refused o w b h = refused-same (needs-world w 0) _ w h
 
 -- a settle of a sound world
-pub settle-taken : (w : List ℕ) (b : ℕ) → needs-world w 0 ≡ 0
-    → (gives (settle-words w b .ending) ≡ settle-reply w b) × (settle-words w b .world ≡ settled-words w b)
+pub settle-taken : (o : Manner) (w : List ℕ) (b : ℕ) → needs-world w 0 ≡ 0
+    → (gives (settle-words o w b .ending) ≡ settle-reply o w b) × (settle-words o w b .world ≡ settled-words o w b)
 unfolding settle-reply settled-words
-settle-taken w b e = (rw e, rw e)
+settle-taken o w b e = (rw e, rw e)
 
 pub after-refused : (s : State) (x : Step) → (refusal s x ≡ 0 → ⊥) → after s x ≡ s
 unfolding after
@@ -66,7 +66,7 @@ module _ (w bytes second : List ℕ) where
 -- What the calls give in turn.
 unfoldable pub item-words : List ℕ → Item → List ℕ
 item-words w (given bytes) = stepped-words w bytes
-item-words w (settling b) = settled-words w b
+item-words w (settling o b) = settled-words o w b
 
 unfoldable pub run-words : List ℕ → List Item → List ℕ
 run-words w [] = w
@@ -84,31 +84,31 @@ pub tick-words : (r : Run (List ℕ)) (bytes : List ℕ)
 unfolding tick stepped-words step-refusal
 tick-words r bytes =
     let w : List ℕ = r .now in
-    choice (on-words .world w && accepted (view w) (read bytes))
+    either-way (on-words .world w && accepted (view w) (read bytes))
     ∙ ap (λ (b : Bool). pick b (step-words w (read bytes)) w)
     (sym (needs-split (eqb (length w) 20480) (sound (view w)) (refusal (view w) (read bytes))))
   where
-    choice : (b : Bool)
+    either-way : (b : Bool)
         → pick b (taken on-words r (read bytes)) r .now ≡ pick b (step-words (r .now) (read bytes)) (r .now)
-    choice true = refl
-    choice false = refl
+    either-way true = refl
+    either-way false = refl
 
-pub settles-words : (r : Run (List ℕ)) (b : ℕ) → settles on-words r b .now ≡ settled-words (r .now) b
+pub settles-words : (o : Manner) (r : Run (List ℕ)) (b : ℕ) → settles on-words o r b .now ≡ settled-words o (r .now) b
 unfolding settles settled-words settle-words step
-settles-words r b = go (on-words .world (r .now))
+settles-words o r b = go (on-words .world (r .now))
   where
     all : Settled (Run (List ℕ))
-    all = settle-from (λ t. lowest (view (t .now))) (λ t k m q p. taken on-words t (arrives k m q p)) b 0 r
+    all = settle-from (λ x t. choice o x (view (t .now))) (λ t k m q p. taken on-words t (arrives k m q p)) b 0 0 r
 
-    same : all .world .now ≡ settle-words (r .now) b .world
+    same : all .world .now ≡ settle-words o (r .now) b .world
     same =
-        settle-related (λ t. lowest (view (t .now))) (λ t k m q p. taken on-words t (arrives k m q p))
-        (λ w. lowest (view w)) (λ w k m q p. step-words w (arrives k m q p)) (λ t w. t .now ≡ w)
-        (λ t w e. ap (λ (u : List ℕ). lowest (view u)) e)
-        (λ t w k m q p e _. ap (λ (u : List ℕ). step-words u (arrives k m q p)) e) b 0 r (r .now) refl
+        settle-related (λ x t. choice o x (view (t .now))) (λ t k m q p. taken on-words t (arrives k m q p))
+        (λ x w. choice o x (view w)) (λ w k m q p. step-words w (arrives k m q p)) (λ t w. t .now ≡ w)
+        (λ x t w e. ap (λ (u : List ℕ). choice o x (view u)) e)
+        (λ x t w k m q p e _. ap (λ (u : List ℕ). step-words u (arrives k m q p)) e) b 0 0 r (r .now) refl
         .worlds
 
-    go : (x : Bool) → pick x (all .world) r .now ≡ pick x (settle-words (r .now) b .world) (r .now)
+    go : (x : Bool) → pick x (all .world) r .now ≡ pick x (settle-words o (r .now) b .world) (r .now)
     go true = same
     go false = refl
 
@@ -119,4 +119,4 @@ run-is-calls r (i ∷ is) = run-is-calls (act on-words r i) is ∙ ap (λ (w : L
   where
     item : (i : Item) → act on-words r i .now ≡ item-words (r .now) i
     item (given bytes) = tick-words r bytes
-    item (settling b) = settles-words r b
+    item (settling o b) = settles-words o r b

@@ -2,7 +2,9 @@ pub mod Layout
 pub mod SoundLaws
 pub mod SetupLaws
 pub mod SettleLaws
+pub mod Points
 pub mod StepLaws
+pub mod TurnLaws
 pub mod Runs
 pub mod Calls
 pub mod Kept

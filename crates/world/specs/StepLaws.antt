@@ -109,10 +109,10 @@ accepted-crash s p e =
 
 -- ---- the letter that settle chooses
 -- the first that passes: where one does, and where none does
-hit : (n : ℕ) (f : ℕ → Bool) → ltb (first-from n 0 f) n ≡ true → f (first-from n 0 f) ≡ true
+pub hit : (n : ℕ) (f : ℕ → Bool) → ltb (first-from n 0 f) n ≡ true → f (first-from n 0 f) ≡ true
 hit n f e = let l = ltb-true (first-from n 0 f) n e in first-law n 0 f .hit (omega arith)
 
-miss : (n : ℕ) (f : ℕ → Bool) → ltb (first-from n 0 f) n ≡ false → (i : ℕ) → i < n → f i ≡ false
+pub miss : (n : ℕ) (f : ℕ → Bool) → ltb (first-from n 0 f) n ≡ false → (i : ℕ) → i < n → f i ≡ false
 miss n f e i h =
     let l = ltb-false (first-from n 0 f) n e in first-law n 0 f .miss i (omega arith) (omega arith)
 

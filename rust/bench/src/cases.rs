@@ -38,6 +38,8 @@ pub fn run(case: &str, side: &Side, processes: usize, messages: usize) -> Option
         "step" => public_steps(side, &setup),
         "settle" => (side.settle)(&mut flying(&setup, messages)) as usize,
         "settle-dead" => (side.settle)(&mut three_dead(&setup, messages)) as usize,
+        "settle-fair" => (side.settle_fair)(&mut flying(&setup, messages)) as usize,
+        "settle-fair-dead" => (side.settle_fair)(&mut three_dead(&setup, messages)) as usize,
         "count" => (side.count)(&run_journal(&setup)),
         "replay" => (side.replay)(&mut words, &run_journal(&setup)) as usize + 1,
         "count-full" => (side.count)(FULL),

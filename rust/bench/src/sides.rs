@@ -29,6 +29,7 @@ pub struct Side {
     /// The numbers of FIFO and causal deliveries.
     pub preview: fn(&[u16], &[u8], &mut [u16]) -> (u32, u32),
     pub settle: fn(&mut [u16]) -> u32,
+    pub settle_fair: fn(&mut [u16]) -> u32,
     pub count: fn(&[u8]) -> usize,
     pub read: fn(&[u8], &mut [u8]),
     pub write: fn(&[u8], &mut [u8]),
@@ -56,6 +57,7 @@ pub const ARCHIVE: Side = Side {
         (adds.fifo, adds.causal)
     },
     settle: |words| engine::world::settle(words, u32::MAX).expect("a sound world").arrivals,
+    settle_fair: |words| engine::world::settle_fair(words, u32::MAX).expect("a sound world").arrivals,
     count: |bytes| engine::journal::count(bytes).expect("a good journal"),
     read: |bytes, records| engine::journal::read(bytes, records).expect("a good journal"),
     write: |records, bytes| engine::journal::write(records, bytes).expect("a good length"),
@@ -73,6 +75,7 @@ pub const REFERENCE: Side = Side {
     step: reference_step,
     preview: reference_preview,
     settle: reference_settle,
+    settle_fair: reference_settle_fair,
     count: reference_count,
     read: reference_read,
     write: reference_write,
@@ -159,6 +162,12 @@ pub fn reference_preview(words: &[u16], step: &[u8], second: &mut [u16]) -> (u32
 #[inline(never)]
 pub fn reference_settle(words: &mut [u16]) -> u32 {
     calls::settle(words, u32::MAX).expect("a sound world").arrivals
+}
+
+#[no_mangle]
+#[inline(never)]
+pub fn reference_settle_fair(words: &mut [u16]) -> u32 {
+    calls::settle_fair(words, u32::MAX).expect("a sound world").arrivals
 }
 
 #[no_mangle]

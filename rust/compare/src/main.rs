@@ -20,7 +20,7 @@ use std::process::ExitCode;
 use std::thread;
 use std::time::Instant;
 use tally::Tally;
-use world::{awaited, precedes, waiting};
+use world::{awaited, fair, precedes, waiting};
 
 /// A capability to compare.
 struct Area {
@@ -35,7 +35,7 @@ struct Area {
     weight: u64,
 }
 
-const AREAS: [Area; 10] = [
+const AREAS: [Area; 11] = [
     Area { name: "journal", input: journal::input, answers: journal::ANSWERS, cover: &[], weight: 1 },
     Area { name: "world", input: world::input, answers: world::ANSWERS, cover: world::COVER, weight: 50 },
     Area {
@@ -80,6 +80,7 @@ const AREAS: [Area; 10] = [
         cover: world::SETTLE_COVER,
         weight: 100,
     },
+    Area { name: "fair", input: fair::input, answers: fair::ANSWERS, cover: fair::COVER, weight: 200 },
     Area { name: "replay", input: world::replays, answers: world::REPLAY_ANSWERS, cover: &[], weight: 20 },
     Area { name: "program", input: program::input, answers: program::ANSWERS, cover: &[], weight: 200 },
 ];

@@ -1,8 +1,9 @@
-//! The calls on a lent world: worlds sound and not, setups, lists of steps, previews, settles, journals to replay, whose
-//! message is awaited, and which of two messages came first.
+//! The calls on a lent world: worlds sound and not, setups, lists of steps, previews, both settles, journals to replay,
+//! whose message is awaited, and which of two messages came first.
 
 pub mod awaited;
 mod calls;
+pub mod fair;
 mod inputs;
 pub mod precedes;
 pub mod waiting;
@@ -10,9 +11,11 @@ pub mod waiting;
 use crate::difference::Difference;
 use crate::lent::Lent;
 use crate::tally::Tally;
+use calls::{FAIR, LOWEST};
 use inputs::{Start, SLICE_KINDS, SLICE_LENGTHS};
 use reference::random::Random;
 use reference::sample::{self, Weights, CALM, FLOOD, RACE, STORM, WRONG};
+use reference::settle::Settled;
 use reference::words::{encode, order_place, WORDS};
 use reference::world::{Letter, World, MESSAGES};
 
@@ -38,6 +41,9 @@ pub const ANSWERS: &[(&str, &[u32])] = &[
     ("settle, done", &[0]),
     ("settle, stopped", &[0]),
     ("settle", &[1, 2]),
+    ("fair settle, done", &[0]),
+    ("fair settle, stopped", &[0]),
+    ("fair settle", &[1, 2]),
 ];
 pub const COVER: &[(&str, usize)] = &[
     ("word changed", WORDS),
@@ -158,7 +164,7 @@ fn one_order_changed(turn: u64, random: &mut Random, tally: &mut Tally) -> Resul
     Ok(())
 }
 
-/// A log, an order number, what is awaited and what came first, and now and then a step, its preview and a settle.
+/// A log, an order number, what is awaited and what came first, and now and then a step, its preview and both settles.
 fn all_calls(words: &[u16], random: &mut Random, tally: &mut Tally) -> Result<(), Difference> {
     let words = Lent::holding(random, words);
     let process = random.below(18) as u32;
@@ -173,7 +179,9 @@ fn all_calls(words: &[u16], random: &mut Random, tally: &mut Tally) -> Result<()
         calls::step(&words, &step, random, tally)?;
         let second = inputs::second_slice(random, words.part(), 16);
         calls::preview(&words, &step, &second, random, tally)?;
-        calls::settle(&words, random.below(20) as u32, tally)?;
+        let budget = random.below(20) as u32;
+        calls::settle(&LOWEST, &words, budget, tally)?;
+        calls::settle(&FAIR, &words, budget, tally)?;
     }
     Ok(())
 }
@@ -222,29 +230,21 @@ pub fn previews(index: u64, random: &mut Random, tally: &mut Tally) -> Result<()
 /// A settle of a world with a budget about what it needs.
 pub fn settles(index: u64, random: &mut Random, tally: &mut Tally) -> Result<(), Difference> {
     let start = index as usize % STARTS.len();
-    let mut world = inputs::world(random, &[STARTS[start]]);
-    if random.one_in(2) {
-        inputs::crashes(random, &mut world);
-    }
+    let world = inputs::to_settle(random, STARTS[start]);
     let needed = world.clone().settle(u32::MAX).arrivals;
-    let (kind, budget) = match random.below(6) {
-        0 => ("settle, none allowed", 0),
-        1 => ("settle, as many as needed", needed),
-        2 => ("settle, one fewer than needed", needed.max(1) - 1),
-        3 => ("settle, all allowed", u32::MAX),
-        _ => ("settle, any budget", random.below(needed as usize + 10) as u32),
-    };
+    let (kind, budget) = inputs::budget(random, needed);
     tally.input(kind);
-    calls::settle(&Lent::holding(random, &encode(&world)), budget, tally)?;
-    note_settle(&world, budget, start, tally);
+    calls::settle(&LOWEST, &Lent::holding(random, &encode(&world)), budget, tally)?;
+    let mut after = world.clone();
+    let settled = after.settle(budget);
+    note_settle(&world, settled, &after, start, tally);
     Ok(())
 }
 
 /// Notes a settle by the letters with one end down: those that it moves, those before which it stops, those that it
 /// leaves.
-fn note_settle(world: &World, budget: u32, start: usize, tally: &mut Tally) {
-    let mut after = world.clone();
-    let done = after.settle(budget).done;
+fn note_settle(world: &World, settled: Settled, after: &World, start: usize, tally: &mut Tally) {
+    let done = settled.done;
     let up = |process: usize| world.processes[process].up;
     let of_dead = |letter: &Letter| !up(letter.from) && up(letter.to);
     if done && world.flight.iter().any(of_dead) {

@@ -62,6 +62,13 @@ extern "C" {
         arrivals: *mut u32,
         done: *mut u32,
     ) -> u32;
+    fn wt_settle_fair(
+        world: *mut u16,
+        world_length: usize,
+        budget: u32,
+        arrivals: *mut u32,
+        done: *mut u32,
+    ) -> u32;
     fn wt_replay(
         world: *mut u16,
         world_length: usize,
@@ -146,6 +153,11 @@ pub fn preview(world: &[u16], step: &[u8], second: &mut [u16], fifo: &mut u32, c
 pub fn settle(world: &mut [u16], budget: u32, arrivals: &mut u32, done: &mut u32) -> u32 {
     version::test(version());
     unsafe { wt_settle(world.as_mut_ptr(), world.len(), budget, arrivals, done) }
+}
+
+pub fn settle_fair(world: &mut [u16], budget: u32, arrivals: &mut u32, done: &mut u32) -> u32 {
+    version::test(version());
+    unsafe { wt_settle_fair(world.as_mut_ptr(), world.len(), budget, arrivals, done) }
 }
 
 pub fn replay(world: &mut [u16], journal: &[u8], steps: &mut u32, refused: &mut u32) -> u32 {

@@ -129,6 +129,31 @@ impl World {
         settle(&mut self.words, budget).expect("the words of a World are sound")
     }
 
+    /// Makes at most so many arrivals as [`World::settle`] does, but serves the processes in turn, so that none starves:
+    /// after an arrival at one the next is at the first after it that is up and has a letter in flight to it, of the
+    /// lowest letter to it. Behind the last process comes process 0, and the one itself is tried last. Each call tries
+    /// process 0 first: allow it at least as many arrivals as there are processes. In a world that steps reached both
+    /// settles, allowed [`SETTLE_ALL`], end with the same messages in every log, maybe in another order.
+    ///
+    /// If you keep a journal, take as a step, again and again, the arrival of the first of [`World::letters`] to the
+    /// process whose turn it is; at first the turn is that of process 0.
+    ///
+    /// ```
+    /// use engine::{Settled, Step, World};
+    ///
+    /// // Two messages to process 1, then one to process 2. The arrivals are at 1, 2, 1 and 2.
+    /// let mut world = World::new(&[0, 1, 2])?;
+    /// world.step(Step::multicast(0, &[1])?)?;
+    /// world.step(Step::multicast(0, &[1])?)?;
+    /// world.step(Step::multicast(0, &[2])?)?;
+    /// assert_eq!(world.settle_fair(4), Settled { arrivals: 4, done: false });
+    /// assert_eq!((world.causal_log(1)?, world.causal_log(2)?), (&[0][..], &[2][..]));
+    /// # Ok::<(), engine::Refusal>(())
+    /// ```
+    pub fn settle_fair(&mut self, budget: u32) -> Settled {
+        settle_fair(&mut self.words, budget).expect("the words of a World are sound")
+    }
+
     /// The messages that the process has FIFO-delivered, in order. Refusal 5.
     pub fn fifo_log(&self, process: u8) -> Result<&[u16], Refusal> {
         log(&self.words, process.into(), false)
@@ -348,6 +373,13 @@ pub struct Settled {
 pub fn settle(world: &mut [u16], budget: u32) -> Result<Settled, Refusal> {
     let (mut arrivals, mut done) = (0, 0);
     Refusal::check(raw::settle(world, budget, &mut arrivals, &mut done))?;
+    Ok(Settled { arrivals, done: done == 1 })
+}
+
+/// Makes at most so many arrivals, of letters whose receivers are up, at these in turn. Refusals 1, 2.
+pub fn settle_fair(world: &mut [u16], budget: u32) -> Result<Settled, Refusal> {
+    let (mut arrivals, mut done) = (0, 0);
+    Refusal::check(raw::settle_fair(world, budget, &mut arrivals, &mut done))?;
     Ok(Settled { arrivals, done: done == 1 })
 }
 

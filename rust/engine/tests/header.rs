@@ -2,7 +2,7 @@
 //! wrapper here. The refusals' words are those of the table in docs/REFUSALS.md, and of documents 01 and 02 as
 //! docs/TRACE.md has their sentences.
 
-use engine::{journal, Awaited, LetterKind, Previewed, Record, Refusal, Setup, Step, World};
+use engine::{journal, Awaited, Letter, LetterKind, Previewed, Record, Refusal, Settled, Setup, Step, World};
 use engine::{GROUPS, MESSAGES, PAIRS, PROCESSES, SETTLE_ALL, WORDS};
 use std::fs;
 use std::path::Path;
@@ -146,6 +146,50 @@ fn waiting() -> Result<Vec<String>, Refusal> {
     Ok(lines)
 }
 
+/// The first letter to the first process, of those behind this one and this one at the end, that is up and has one.
+fn next_in_turn(world: &World, last: u8) -> Option<Letter> {
+    let n = world.processes() as u8;
+    let letters = world.letters();
+    let mut turns = (1..=n).map(|i| (last + i) % n).filter(|&to| world.is_up(to));
+    turns.find_map(|to| letters.iter().find(|letter| letter.to == to).copied())
+}
+
+/// One of the settles.
+type Settle = fn(&mut World, u32) -> Settled;
+
+/// The office sends four messages to two mixers and a fifth to a silo store, and crashes; then the settles, and the
+/// arrivals of the fair one as steps.
+fn settles() -> Result<Vec<String>, Refusal> {
+    let mut world = World::new(&[0, 1, 1, 2])?;
+    for message in 0..5 {
+        world.step(Step::multicast(0, &[if message < 4 { 1 } else { 2 }])?)?;
+    }
+    world.step(Step::crash(0))?;
+    let mut lines = vec!["refused: 0".to_string()];
+    let calls: [(&str, Settle); 2] = [("settle", World::settle), ("fair settle", World::settle_fair)];
+    let mut after = world.clone();
+    for (what, settle) in calls {
+        for budget in [0, 8, SETTLE_ALL] {
+            after = world.clone();
+            let Settled { arrivals, done } = settle(&mut after, budget);
+            let done = if done { "done" } else { "stopped" };
+            let delivered = (0..4).map(|p| format!(" {}", after.causal_log(p).map_or(0, <[u16]>::len)));
+            let delivered: String = delivered.collect();
+            lines.push(format!(
+                "{what} {budget}: refusal 0, {arrivals} arrivals, {done}, causally delivered{delivered}"
+            ));
+        }
+    }
+    let (mut last, mut steps) = (world.processes() as u8 - 1, 0);
+    while let Some(letter) = next_in_turn(&world, last) {
+        world.step(Step::Arrival(letter))?;
+        (last, steps) = (letter.to, steps + 1);
+    }
+    let same = if world == after { "the same words" } else { "other words" };
+    lines.push(format!("fair settle as {steps} steps: refused 0, {same}"));
+    Ok(lines)
+}
+
 #[test]
 fn the_wrapper_states_what_the_header_states() {
     let mut lines = vec![version()];
@@ -154,6 +198,7 @@ fn the_wrapper_states_what_the_header_states() {
     lines.extend(records().unwrap());
     lines.extend(world().unwrap());
     lines.extend(waiting().unwrap());
+    lines.extend(settles().unwrap());
     assert_eq!(lines.join("\n") + "\n", read("tests/header/header.out"));
 }
 

@@ -39,6 +39,25 @@ impl Mill {
         arrivals
     }
 
+    /// The first letter to the first process, of those behind this one and this one at the end, that is up and has one.
+    fn in_turn(&self, last: u8) -> Option<Letter> {
+        let n = self.world.processes() as u8;
+        let letters = self.world.letters();
+        let mut turns = (1..=n).map(|i| (last + i) % n).filter(|&to| self.world.is_up(to));
+        turns.find_map(|to| letters.iter().find(|letter| letter.to == to).copied())
+    }
+
+    /// Takes letters in turn as arrivals, the first turn being that of process 0: the letters.
+    fn carry_in_turn(&mut self) -> Vec<Letter> {
+        let mut carried: Vec<Letter> = Vec::new();
+        let behind = self.world.processes() as u8 - 1;
+        while let Some(letter) = self.in_turn(carried.last().map_or(behind, |letter| letter.to)) {
+            self.take(Step::Arrival(letter));
+            carried.push(letter);
+        }
+        carried
+    }
+
     fn journal(&self) -> Vec<u8> {
         journal::from_records(&self.records).unwrap()
     }
@@ -102,6 +121,137 @@ fn a_settle_that_is_stopped_leaves_what_as_many_arrivals_leave() {
         arrivals += 1;
     }
     assert_eq!(start.clone().settle(arrivals), Settled { arrivals, done: true });
+}
+
+#[test]
+fn the_arrivals_of_a_fair_settle_taken_as_steps_are_in_the_journal() {
+    let mut mill = busy_mill();
+    let mut settled = mill.world.clone();
+    let answer = settled.settle_fair(SETTLE_ALL);
+    assert!(answer.done && answer.arrivals > 50, "{answer:?}");
+    assert_eq!(mill.carry_in_turn().len() as u32, answer.arrivals);
+    assert_eq!(mill.world.words(), settled.words());
+    assert_eq!(replayed(&mill.journal()).words(), settled.words());
+}
+
+#[test]
+fn a_fair_settle_that_is_stopped_leaves_what_as_many_arrivals_leave() {
+    let start = busy_mill().world;
+    let mut carried = busy_mill();
+    let letters = carried.carry_in_turn();
+    let mut world = start.clone();
+    for (arrivals, &letter) in letters.iter().enumerate() {
+        let mut stopped = start.clone();
+        let arrivals = arrivals as u32;
+        assert_eq!(stopped.settle_fair(arrivals), Settled { arrivals, done: false });
+        assert_eq!(stopped.words(), world.words());
+        world.step(Step::Arrival(letter)).unwrap();
+    }
+    let arrivals = letters.len() as u32;
+    assert_eq!(start.clone().settle_fair(arrivals), Settled { arrivals, done: true });
+}
+
+/// The office sends eight messages to the mixers, 1 and 2, and then one to the silo store, 3.
+fn store_behind_mixers() -> Mill {
+    let mut mill = Mill::new(&[0, 1, 1, 2]);
+    for _ in 0..8 {
+        mill.multicast(0, &[1]);
+    }
+    mill.multicast(0, &[2]);
+    mill
+}
+
+/// With the lowest letter first the store is served when the mixers have all that is theirs; in turn, after these two.
+#[test]
+fn in_turn_a_silo_store_does_not_wait_behind_the_mixers() {
+    let mill = store_behind_mixers();
+    let acts = |settle: fn(&mut World, u32) -> Settled, budget: u32| {
+        let mut world = mill.world.clone();
+        settle(&mut world, budget);
+        world.causal_log(3).unwrap().len()
+    };
+    assert_eq!((acts(World::settle, 49), acts(World::settle, 50)), (0, 1));
+    assert_eq!((acts(World::settle_fair, 5), acts(World::settle_fair, 6)), (0, 1));
+    let served: Vec<u8> = store_behind_mixers().carry_in_turn().iter().map(|letter| letter.to).collect();
+    assert_eq!(served, [vec![1, 2, 3, 1, 2, 3], [1, 2].repeat(22)].concat());
+}
+
+/// The FIFO logs of both settles, of a process in a mill.
+fn settled_logs(mill: &Mill, process: u8) -> [Vec<u16>; 2] {
+    [World::settle, World::settle_fair].map(|settle| {
+        let mut world = mill.world.clone();
+        assert!(settle(&mut world, SETTLE_ALL).done);
+        world.fifo_log(process).unwrap().to_vec()
+    })
+}
+
+/// The trust rule is kept: after both settles every FIFO log has the same messages, maybe in another order. The mixer, 1,
+/// has four messages before it is the turn of message 4, which is to the store too; that of the weighbridge, message 5, is
+/// not kept up by it.
+#[test]
+fn both_settles_end_with_the_same_messages_in_every_fifo_log() {
+    let mut mill = Mill::new(&[0, 1, 2, 3]);
+    for groups in [&[1][..], &[1], &[1], &[1], &[1, 2]] {
+        mill.multicast(0, groups);
+    }
+    mill.multicast(3, &[2]);
+    assert_eq!(settled_logs(&mill, 2), [[4, 5], [5, 4]]);
+    for mill in [mill, busy_mill()] {
+        for process in 0..mill.world.processes() as u8 {
+            let [lowest, fair] = settled_logs(&mill, process).map(|mut log| {
+                log.sort_unstable();
+                log
+            });
+            assert_eq!(lowest, fair, "process {process}");
+        }
+    }
+}
+
+/// Single arrivals all begin with process 0, and the first mixer is served again and again. With a budget of as many as
+/// there are processes each that has letters is served.
+#[test]
+fn each_fair_settle_begins_with_process_0() {
+    let mut mill = store_behind_mixers();
+    for _ in 0..8 {
+        assert_eq!(mill.world.settle_fair(1).arrivals, 1);
+    }
+    let of_others = mill.world.letters().iter().filter(|letter| letter.from == 0 && letter.to != 1).count();
+    assert_eq!(of_others, 9, "all that the office has sent to others");
+    let mut mill = store_behind_mixers();
+    let processes = mill.world.processes() as u32;
+    for round in 1..=2 {
+        mill.world.settle_fair(processes);
+        let delivered = mill.causal_log(3).len();
+        assert_eq!(delivered, round - 1, "the silo store in round {round}");
+    }
+}
+
+#[test]
+fn a_fair_settle_with_budget_0_tells_whether_anything_is_to_come() {
+    let mut mill = busy_mill();
+    let before = mill.world.clone();
+    assert_eq!(mill.world.settle_fair(0), Settled { arrivals: 0, done: false });
+    assert_eq!(mill.world, before);
+    mill.carry_in_turn();
+    assert!(!mill.world.letters().is_empty(), "letters to a process that is down");
+    assert_eq!(mill.world.settle_fair(0), Settled { arrivals: 0, done: true });
+}
+
+#[test]
+fn a_refused_settle_changes_nothing_that_was_lent() {
+    let sound = busy_mill().world.words().to_vec();
+    let mut unsound = sound.clone();
+    unsound[0] = 17;
+    let cases = [(&sound[..], 0), (&sound[1..], 1), (&unsound[1..], 1), (&[][..], 1), (&unsound[..], 2)];
+    for settle in [raw::settle, raw::settle_fair] {
+        for (words, answer) in cases {
+            let mut lent = words.to_vec();
+            let (mut arrivals, mut done) = (7, 8);
+            assert_eq!(settle(&mut lent, 3, &mut arrivals, &mut done), answer);
+            assert_eq!(lent == words, answer != 0);
+            assert_eq!((arrivals, done), if answer == 0 { (3, 0) } else { (7, 8) });
+        }
+    }
 }
 
 #[test]

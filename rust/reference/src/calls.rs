@@ -53,10 +53,19 @@ fn added(before: &World, after: &World, log: fn(&Process) -> &Vec<usize>) -> u32
     new.sum::<usize>() as u32
 }
 
-/// Settles within a budget. Refusals 1, 2.
+/// Settles within a budget, the lowest letter first. Refusals 1, 2.
 pub fn settle(words: &mut [u16], budget: u32) -> Result<Settled, Refusal> {
+    settle_with(words, |world| world.settle(budget))
+}
+
+/// Document 02, card 7: settles within a budget, processes in turn. Refusals 1, 2.
+pub fn settle_fair(words: &mut [u16], budget: u32) -> Result<Settled, Refusal> {
+    settle_with(words, |world| world.settle_fair(budget))
+}
+
+fn settle_with(words: &mut [u16], settle: impl Fn(&mut World) -> Settled) -> Result<Settled, Refusal> {
     let mut world = sound::read(words)?;
-    let settled = world.settle(budget);
+    let settled = settle(&mut world);
     words.copy_from_slice(&encode(&world));
     Ok(settled)
 }

@@ -1,4 +1,4 @@
-//! The second implementation of document 01 and of cards 1, 2, 4, 5 and 6 of document 02, written from the papers for
+//! The second implementation of document 01 and of cards 1, 2 and 4 to 7 of document 02, written from the papers for
 //! clarity, to be held against the archive.
 
 #![forbid(unsafe_code)]

@@ -1,5 +1,5 @@
-//! Demand 3 on random runs: the exact condition for causal delivery, order, and agreement of the FIFO logs after a
-//! settle where the trust rule held.
+//! Demand 3 on random runs, with both settles: the exact condition for causal delivery, order, and agreement of the FIFO
+//! logs after a settle where the trust rule held.
 
 mod support;
 
@@ -8,7 +8,7 @@ use reference::record::{crash, trust};
 use reference::sample::{self, Weights, CALM, FLOOD, RACE, STORM, WRONG};
 use reference::world::World;
 use support::history::{History, Precedence};
-use support::{agreed, letters, BUDGET};
+use support::{agreed, letters, Settle, BUDGET, SETTLES};
 
 /// Conclusions 1 and 2.
 fn check_order(world: &World, precedence: &Precedence) {
@@ -32,19 +32,19 @@ fn check_order(world: &World, precedence: &Precedence) {
 }
 
 /// Conclusion 3: a settle says done, and then the FIFO logs agree.
-fn agreement(world: &mut World) -> bool {
-    world.settle(BUDGET).done && agreed(world)
+fn agreement(world: &mut World, settle: Settle) -> bool {
+    settle(world, BUDGET).done && agreed(world)
 }
 
 fn weights(random: &mut Random) -> Weights {
     random.pick(&[CALM, RACE, STORM, FLOOD, WRONG])
 }
 
-/// Sometimes a settle with a small budget, which counts as its arrivals.
+/// Sometimes one of the settles with a small budget, which counts as its arrivals.
 fn maybe_settle(random: &mut Random, world: &mut World, history: &mut History) {
     if random.one_in(50) {
         let bound = letters(world);
-        let settled = world.settle(random.below(20) as u32);
+        let settled = random.pick(&SETTLES)(world, random.below(20) as u32);
         assert!(settled.arrivals <= bound);
         history.note_deliveries(world);
     }
@@ -67,7 +67,7 @@ fn order_after_any_list() {
         }
         check_order(&world, &history.precedence());
         if random.one_in(2) {
-            world.settle(BUDGET);
+            random.pick(&SETTLES)(&mut world, BUDGET);
             history.note_deliveries(&world);
             check_order(&world, &history.precedence());
         }
@@ -131,19 +131,22 @@ fn agreement_where_the_trust_rule_held() {
         assert!(history.trust_rule(&world), "the run keeps the trust rule");
         of_down += usize::from(world.flight.iter().any(|letter| !live[letter.from] && live[letter.to]));
         let bound = letters(&world);
-        assert!(world.clone().settle(bound).done, "the letters bound the arrivals");
-        assert!(agreement(&mut world), "run {run}");
-        history.note_deliveries(&world);
-        check_order(&world, &history.precedence());
-        delivered += world.processes.iter().map(|process| process.fifo_log.len()).sum::<usize>();
+        for settle in SETTLES {
+            let (mut world, mut history) = (world.clone(), history.clone());
+            assert!(settle(&mut world.clone(), bound).done, "the letters bound the arrivals");
+            assert!(agreement(&mut world, settle), "run {run}");
+            history.note_deliveries(&world);
+            check_order(&world, &history.precedence());
+            delivered += world.processes.iter().map(|process| process.fifo_log.len()).sum::<usize>();
+        }
     }
-    assert!(delivered > 10_000, "{delivered} FIFO deliveries");
+    assert!(delivered > 20_000, "{delivered} FIFO deliveries");
     assert!(of_down > 300, "{of_down} settles with a letter of a process that is down to one that is up");
 }
 
 #[test]
 fn agreement_fails_without_the_trust_rule() {
-    let mut failed = 0;
+    let mut failed = [0; SETTLES.len()];
     for run in 0..300 {
         let random = &mut Random::new(34, run);
         let mut world = World::fresh(&sample::setup(random, 4)).unwrap();
@@ -152,7 +155,9 @@ fn agreement_fails_without_the_trust_rule() {
             let step = sample::step(random, &world, &STORM);
             history.step(&mut world, &step);
         }
-        failed += usize::from(!history.trust_rule(&world) && !agreement(&mut world));
+        for (settle, failed) in SETTLES.into_iter().zip(&mut failed) {
+            *failed += usize::from(!history.trust_rule(&world) && !agreement(&mut world.clone(), settle));
+        }
     }
-    assert!(failed > 0, "the test of agreement can fail");
+    assert!(failed.iter().all(|&failed| failed > 0), "the test of agreement can fail");
 }

@@ -11,7 +11,7 @@ use reference::sound;
 use reference::words::{encode, order_place, WORDS};
 use reference::world::{World, MESSAGES};
 use reference::Refusal;
-use support::{arrival, fresh, journal_of, loss, refused, stored, take};
+use support::{arrival, fresh, journal_of, loss, refused, stored, take, SETTLES};
 
 /// The order numbers of all messages.
 fn orders(world: &World) -> Vec<u16> {
@@ -153,8 +153,11 @@ fn no_number_changes_anything_else() {
             assert_eq!(encode(&zeros), words_without_orders(&world), "run {run}, step {step:?}");
         }
         let budget = random.below(100) as u32;
-        assert_eq!(zeros.settle(budget), world.settle(budget));
-        assert_eq!(encode(&zeros), words_without_orders(&world), "run {run}");
+        for settle in SETTLES {
+            let (mut zeros, mut world) = (zeros.clone(), world.clone());
+            assert_eq!(settle(&mut zeros, budget), settle(&mut world, budget));
+            assert_eq!(encode(&zeros), words_without_orders(&world), "run {run}");
+        }
         numbers += orders(&world).iter().filter(|&&order| order != 0).count();
     }
     assert!(numbers > 1_000 && refused > 1_000, "{numbers} numbers, {refused} refused");

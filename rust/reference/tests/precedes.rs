@@ -12,7 +12,7 @@ use reference::words::{encode, WORDS};
 use reference::world::World;
 use reference::Refusal;
 use support::history::History;
-use support::{arrival, fresh, take, BUDGET};
+use support::{arrival, fresh, take, BUDGET, SETTLES};
 
 /// Known run 3 until the call, message 2, is multicast: the recipe, 0, precedes the release, 1, and both the call.
 fn called() -> World {
@@ -283,7 +283,7 @@ fn where_steps_led_the_answers_are_precedence_by_events() {
             let step = sample::step(random, &world, &weights);
             history.step(&mut world, &step);
             if random.one_in(100) {
-                world.settle(random.pick(&[1, 20, BUDGET]));
+                random.pick(&SETTLES)(&mut world, random.pick(&[1, 20, BUDGET]));
                 history.note_deliveries(&world);
             }
         }

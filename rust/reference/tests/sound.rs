@@ -10,7 +10,7 @@ use reference::sound;
 use reference::words::{encode, WORDS};
 use reference::world::World;
 use reference::Refusal;
-use support::{arrival, fresh, take};
+use support::{arrival, fresh, take, SETTLES};
 
 const FRESH: [u8; 8] = [0, 3, 0x88, 0, 0, 0, 0, 0];
 
@@ -179,6 +179,7 @@ fn refusals_1_2_3_and_5() {
         assert_eq!(calls::make(words, &[]), Err(Refusal::WorldLength));
         assert_eq!(calls::step(words, &[]), Err(Refusal::WorldLength));
         assert_eq!(calls::settle(words, 0), Err(Refusal::WorldLength));
+        assert_eq!(calls::settle_fair(words, 0), Err(Refusal::WorldLength));
         assert_eq!(calls::log(words, 99, true), Err(Refusal::WorldLength));
         assert_eq!(calls::replay(words, &[]), Err(Refusal::WorldLength));
         assert_eq!(words, before);
@@ -186,6 +187,7 @@ fn refusals_1_2_3_and_5() {
     let mut words = vec![7; WORDS];
     assert_eq!(calls::step(&mut words, &[]), Err(Refusal::NotSound));
     assert_eq!(calls::settle(&mut words, 0), Err(Refusal::NotSound));
+    assert_eq!(calls::settle_fair(&mut words, 0), Err(Refusal::NotSound));
     assert_eq!(calls::log(&words, 99, true), Err(Refusal::NotSound));
     assert_eq!(calls::make(&mut words, &[0; 8]), Err(Refusal::Setup));
     assert_eq!(calls::replay(&mut words, &[]), Err(Refusal::JournalLength));
@@ -222,8 +224,11 @@ fn steps_keep_worlds_sound() {
             let step = sample::step(random, &world, &weights);
             let _ = world.step(&step);
         }
-        world.settle(random.below(100) as u32);
-        assert_eq!(sound::read(&encode(&world)), Ok(world), "run {run}");
+        for settle in SETTLES {
+            let mut world = world.clone();
+            settle(&mut world, random.below(100) as u32);
+            assert_eq!(sound::read(&encode(&world)), Ok(world), "run {run}");
+        }
     }
 }
 
@@ -241,6 +246,8 @@ fn calls_are_steps_on_words() {
         }
         let budget = random.below(200) as u32;
         assert_eq!(calls::settle(&mut words, budget), Ok(world.settle(budget)));
+        assert_eq!(words, encode(&world));
+        assert_eq!(calls::settle_fair(&mut words, budget), Ok(world.settle_fair(budget)));
         assert_eq!(words, encode(&world));
     }
 }

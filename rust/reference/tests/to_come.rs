@@ -1,4 +1,4 @@
-//! What a settle leaves in flight, as card 4 of document 02 has it: nothing that is to come to a process that is up,
+//! What each settle leaves in flight, as card 4 of document 02 has it: nothing that is to come to a process that is up,
 //! whoever sent it, once it says done.
 
 mod support;
@@ -10,7 +10,7 @@ use reference::settle::Settled;
 use reference::sound;
 use reference::words::encode;
 use reference::world::{Kind, Letter, World};
-use support::{fresh, letters, sum, take, BUDGET};
+use support::{fresh, letters, sum, take, Settle, BUDGET, SETTLES};
 
 /// Some steps, then crashes of some processes, so that their letters are left in flight: how many letters have ended.
 fn steps_and_crashes(random: &mut Random, world: &mut World) -> u32 {
@@ -55,9 +55,9 @@ impl Met {
 
 /// Settles with this budget. Done: no letter is in flight to a process that is up. Stopped: the budget is used, and
 /// one is. What was in flight to a process that is down still is.
-fn settle(world: &World, budget: u32, met: &mut Met) -> (Settled, World) {
+fn settle(world: &World, by: Settle, budget: u32, met: &mut Met) -> (Settled, World) {
     let mut after = world.clone();
-    let settled = after.settle(budget);
+    let settled = by(&mut after, budget);
     let up = |letter: &Letter| world.processes[letter.to].up;
     assert_eq!(settled.done, !after.flight.iter().any(up), "{settled:?} of {budget}");
     assert!(if settled.done { settled.arrivals <= budget } else { settled.arrivals == budget });
@@ -68,11 +68,11 @@ fn settle(world: &World, budget: u32, met: &mut Met) -> (Settled, World) {
 
 /// A settle with this budget says done, and with a smaller one just if it is enough: the arrivals, and how many letters
 /// are left.
-fn settles(world: &World, budget: u32, met: &mut Met) -> (u32, u32) {
-    let (Settled { arrivals, done }, after) = settle(world, budget, met);
+fn settles(world: &World, by: Settle, budget: u32, met: &mut Met) -> (u32, u32) {
+    let (Settled { arrivals, done }, after) = settle(world, by, budget, met);
     assert!(done, "{arrivals} arrivals");
     for fewer in arrivals.saturating_sub(3)..=arrivals {
-        let settled = settle(world, fewer, met).0;
+        let settled = settle(world, by, fewer, met).0;
         assert_eq!(settled, Settled { arrivals: fewer, done: fewer == arrivals });
     }
     (arrivals, after.flight.len() as u32)
@@ -80,28 +80,32 @@ fn settles(world: &World, budget: u32, met: &mut Met) -> (u32, u32) {
 
 #[test]
 fn nothing_is_to_come_after_done_where_steps_led() {
-    let mut met = Met::default();
+    let mut met: [Met; SETTLES.len()] = Default::default();
     for run in 0..1_000 {
         let random = &mut Random::new(36, run);
         let most = if run % 4 == 0 { 16 } else { 6 };
         let mut world = World::fresh(&sample::setup(random, most)).unwrap();
         let ended = steps_and_crashes(random, &mut world);
-        let (arrivals, left) = settles(&world, BUDGET, &mut met);
-        assert!(ended + arrivals + left <= letters(&world), "run {run}: each letter flies once");
+        for (by, met) in SETTLES.into_iter().zip(&mut met) {
+            let (arrivals, left) = settles(&world, by, BUDGET, met);
+            assert!(ended + arrivals + left <= letters(&world), "run {run}: each letter flies once");
+        }
     }
-    met.check();
+    met.iter().for_each(Met::check);
 }
 
 #[test]
 fn nothing_is_to_come_after_done_in_any_sound_world() {
-    let mut met = Met::default();
+    let mut met: [Met; SETTLES.len()] = Default::default();
     for run in 0..1_000 {
         let random = &mut Random::new(37, run);
         let mut world = sample::sound_world(random, if run % 4 == 0 { 16 } else { 6 });
         steps_and_crashes(random, &mut world);
-        settles(&world, sum(&world, 4), &mut met);
+        for (by, met) in SETTLES.into_iter().zip(&mut met) {
+            settles(&world, by, sum(&world, 4), met);
+        }
     }
-    met.check();
+    met.iter().for_each(Met::check);
 }
 
 /// The settle of before card 4: letters between two up processes only.
@@ -152,7 +156,9 @@ fn a_world_that_no_steps_reach_can_need_more_arrivals() {
         }
     }
     assert_eq!(sound::read(&encode(&world)).as_ref(), Ok(&world));
-    let mut met = Met::default();
-    assert_eq!(settle(&world, BUDGET, &mut met).0, Settled { arrivals: BUDGET, done: false });
-    assert_eq!(settles(&world, sum(&world, 4), &mut met), (49_920, 0));
+    for by in SETTLES {
+        let mut met = Met::default();
+        assert_eq!(settle(&world, by, BUDGET, &mut met).0, Settled { arrivals: BUDGET, done: false });
+        assert_eq!(settles(&world, by, sum(&world, 4), &mut met), (49_920, 0));
+    }
 }

@@ -1,5 +1,6 @@
 -- `calls::settle` meets its contract: 1, 2, else what settling a sound world gives. Assumes nothing.
 use mathlib.Core.Path.{_∙_}
+use Rattle.definitions.specs.Settle.{lowest-first}
 use Rattle.definitions.specs.Answers.{refusal-number}
 use Rattle.answers.specs.Laws.{refusal-some, taken-zero, refused-number}
 use Rattle.keeps.specs.Keeps.{taken-sound-words}
@@ -26,7 +27,7 @@ returns c =
     let t = c .before .before .before .before in
     let a = t .before .before .before .before .args in
     let r = c .before .r .given .0 .0 in
-    settle-refused (a .w .now) (a .budget) (refusal-number r) (refusal-some r)
+    settle-refused lowest-first (a .w .now) (a .budget) (refusal-number r) (refusal-some r)
     (refused-number (c .before .r .given .1) (t .indexed .ensures .0))
 
 enum-told : tie.Need-enum-told
@@ -51,7 +52,7 @@ returns-2 c =
     let e = k .before .before .before in
     let t = e .before .before .before in
     let a = t .before .before .before .before .args in
-    let z = settle-taken (a .w .now) (a .budget) (taken-zero (e .enum-told .given .1) (t .indexed .ensures .0)) in
+    let z = settle-taken lowest-first (a .w .now) (a .budget) (taken-zero (e .enum-told .given .1) (t .indexed .ensures .0)) in
     (k .settle-sound .ensures .0 ∙ z .0, k .settle-sound .ensures .1 ∙ z .1)
 
 pub settle-spec : {M : Type 1} → statement M

@@ -1,6 +1,8 @@
--- `engine::wt_settle` meets its contract: each case of the answer has its number and its values. Assumes nothing.
-use mathlib.Core.Path.{refl, sym, ap, _∙_}
-use Rattle.definitions.specs.Answers.{settling-reply}
+-- `engine::wt_settle` meets its contract: the answer of the call, told. Assumes nothing.
+use mathlib.Core.Path.{ap, _∙_}
+use Rattle.definitions.specs.General.{Reply, refusal-in, value-in}
+use Rattle.definitions.specs.Settle.{Ending}
+use Rattle.definitions.specs.Answers.{arrivals-in, done-in}
 use borrow.Author.Needs.{needs}
 use Rattle.engine.proofs.wt_settle.Statement.{statement}
 use Rattle.engine.proofs.wt_settle.Tie as tie
@@ -8,17 +10,8 @@ use Rattle.engine.proofs.wt_settle.Tie as tie
 settle-requires : tie.Need-settle-requires
 settle-requires c κs = search needs
 
-enum-known-n : tie.Need-enum-known-n
-enum-known-n c = search needs
-
-enum-known-n-2 : tie.Need-enum-known-n-2
-enum-known-n-2 c = search needs
-
-enum-known-r : tie.Need-enum-known-r
-enum-known-r c = search needs
-
-number-requires : tie.Need-number-requires
-number-requires c κs = search needs
+tell-requires : tie.Need-tell-requires
+tell-requires c κs = search needs
 
 same-length : tie.Need-same-length
 same-length c = search needs
@@ -26,39 +19,24 @@ same-length c = search needs
 returns : tie.Need-returns
 returns c =
     let s = c .before .before .before .before .before in
-    rw (← (ap settling-reply (sym (c .before .n .given .1)) ∙ s .settle .ensures .0))
-    (refl, (s .settle .ensures .1, (refl, refl)))
-
-same-length-2 : tie.Need-same-length-2
-same-length-2 c = search needs
-
-returns-2 : tie.Need-returns-2
-returns-2 c =
-    let s = c .before .before .before .before .before in
-    rw (← (ap settling-reply (sym (c .before .n2 .given .1)) ∙ s .settle .ensures .0))
-    (refl, (s .settle .ensures .1, (refl, refl)))
-
-same-length-3 : tie.Need-same-length-3
-same-length-3 c = search needs
-
-returns-3 : tie.Need-returns-3
-returns-3 c =
-    let s = c .before .before .before .before .before .before in
-    rw (← (ap settling-reply (sym (c .before .before .r .given .1)) ∙ s .settle .ensures .0))
-    (c .number .ensures, (s .settle .ensures .1, (refl, refl)))
+    let a = c .before .before .before .before .before .before .before .before .args in
+    let e = s .settle .ensures .0 in
+    let t = c .tell .ensures in (
+      t .0 ∙ ap refusal-in e,
+      (
+        s .settle .ensures .1,
+        (
+          t .1 .0 ∙ ap (λ (r : Reply Ending). value-in arrivals-in r (a .arrivals .now)) e,
+          t .1 .1 ∙ ap (λ (r : Reply Ending). value-in done-in r (a .done .now)) e,
+        ),
+      ),
+    )
 
 pub wt-settle-spec : {M : Type 1} → statement M
 wt-settle-spec =
     tie.close
     (tie.spec
     settle-requires
-    enum-known-n
-    enum-known-n-2
-    enum-known-r
-    number-requires
+    tell-requires
     same-length
-    returns
-    same-length-2
-    returns-2
-    same-length-3
-    returns-3)
+    returns)

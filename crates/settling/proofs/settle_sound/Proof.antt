@@ -8,13 +8,13 @@ use native.Mathlib.Omega.{arith}
 use lib.ListN.{length}
 use Rattle.definitions.specs.World.{count, view}
 use Rattle.world.specs.SoundLaws.{size-high, count-high}
-use Rattle.definitions.specs.Settle.{letter, Settled, lowest}
+use Rattle.definitions.specs.Settle.{letter, Settled, lowest, lowest-first}
 use Rattle.world.specs.StepLaws.{lowest-moves}
 use Rattle.definitions.specs.General.{gives}
 use Rattle.definitions.specs.Words.{settle-words}
 use Rattle.index.specs.Index.{Index}
 use Rattle.letters.specs.Letters.{choice-of}
-use Rattle.settling.specs.Settling.{settling-from, settle-done, settle-stopped, letter-within, Going, going-first}
+use Rattle.settling.specs.Settling.{lowest-from, settle-done, settle-stopped, letter-within, Going, going-first}
 use Rattle.settling.specs.Batch.{receives-waiting, going-here, some-receiver, batched-first}
 use borrow.Author.Needs.{needs}
 use Rattle.settling.proofs.settle_sound.Statement.{statement}
@@ -23,7 +23,7 @@ use Rattle.settling.proofs.settle_sound.Tie as tie
 abbrev Inv-loop : tie.InvT-loop
 Inv-loop w₀ x₀ budget up quiescent₀ place₀ made₀ w x quiescent place made =
     (made ≤ budget) × (length w₀ ≡ 20480) × Going w up quiescent place
-    × (settle-words w₀ budget ≡ settling-from (budget - made) made w) × Index (view w) x
+    × (settle-words lowest-first w₀ budget ≡ lowest-from (budget - made) made w) × Index (view w) x
 
 abbrev μ-loop : tie.MeasureT-loop
 μ-loop w₀ x₀ budget up quiescent₀ place₀ made₀ w x quiescent place made = budget - made
@@ -69,7 +69,7 @@ returns c =
     let f = c .before .before in
     let l = f .before .before .before in
     let e = l .loop .inv .3
-    ∙ settle-done _ (l .loop .made) (l .loop .w)
+    ∙ settle-done lowest-first _ (l .loop .made) 0 (l .loop .w)
     (sym (f .lowest-letter .ensures) ∙ ap choice-of (c .enum-told .given .1)) in
     (sym (ap (λ (x : Settled (List ℕ)). gives (x .ending)) e), sym (ap (λ (x : Settled (List ℕ)). x .world) e))
 
@@ -92,7 +92,7 @@ within : (c : tie.After-known-told Inv-loop μ-loop)
     × (c .before .k .given .0 .1 .0 < view (c .before .before .before .before .before .before .loop .w) count)
 within c =
     let l = c .before .before .before .before .before .before in
-    letter-within (l .loop .w) _ _ _ _ (l .loop .inv .2 .sound) (found c)
+    letter-within (l .loop .w) _ _ _ _ (l .loop .inv .2 .sound) (lowest-moves (view (l .loop .w)) _ _ _ _ (found c))
 
 receivers-requires : tie.Need-receivers-requires Inv-loop μ-loop
 receivers-requires c κs =
@@ -156,7 +156,7 @@ returns-2 c =
     let f = c .before .before in
     let l = f .before .before .before in
     let e = l .loop .inv .3
-    ∙ settle-stopped (l .before .before .before .before .before .before .args .budget) (l .loop .made) (l .loop .w) _ _ _ _ (omega arith)
+    ∙ settle-stopped lowest-first (l .before .before .before .before .before .before .args .budget) (l .loop .made) 0 (l .loop .w) _ _ _ _ (omega arith)
     (sym (f .lowest-letter2 .ensures) ∙ ap choice-of (c .enum-told2 .given .1)) in
     (sym (ap (λ (x : Settled (List ℕ)). gives (x .ending)) e), sym (ap (λ (x : Settled (List ℕ)). x .world) e))
 
@@ -171,7 +171,7 @@ returns-3 c =
     let f = c .before .before in
     let l = f .before .before .before in
     let e = l .loop .inv .3
-    ∙ settle-done _ (l .loop .made) (l .loop .w)
+    ∙ settle-done lowest-first _ (l .loop .made) 0 (l .loop .w)
     (sym (f .lowest-letter2 .ensures) ∙ ap choice-of (c .enum-told3 .given .1)) in
     (sym (ap (λ (x : Settled (List ℕ)). gives (x .ending)) e), sym (ap (λ (x : Settled (List ℕ)). x .world) e))
 

@@ -4,8 +4,8 @@ use super::inputs::{Asked, SecondSlice, SLICE_LENGTHS};
 use crate::difference::{same, Difference};
 use crate::lent::Lent;
 use crate::tally::{number, Tally};
-use engine::raw;
 use engine::world as archive;
+use engine::{raw, Settled};
 use reference::awaited::Awaited;
 use reference::calls::{self as second, Previewed};
 use reference::random::Random;
@@ -266,21 +266,53 @@ fn note_preview(right: Result<Previewed, Refusal>, alone: u32, slice: &SecondSli
     }
 }
 
-pub fn settle(words: &Lent<u16>, budget: u32, tally: &mut Tally) -> Compared {
+/// One of the two settles on both sides, and what its answers are called: done, stopped, a refusal.
+pub struct Settle {
+    raw: fn(&mut [u16], u32, &mut u32, &mut u32) -> u32,
+    wrapper: fn(&mut [u16], u32) -> Result<Settled, engine::Refusal>,
+    second: fn(&mut [u16], u32) -> Result<reference::settle::Settled, Refusal>,
+    names: [&'static str; 3],
+}
+
+/// The settle that takes the lowest letter first.
+pub const LOWEST: Settle = Settle {
+    raw: raw::settle,
+    wrapper: archive::settle,
+    second: second::settle,
+    names: ["settle, done", "settle, stopped", "settle"],
+};
+
+/// The settle that serves processes in turn.
+pub const FAIR: Settle = Settle {
+    raw: raw::settle_fair,
+    wrapper: archive::settle_fair,
+    second: second::settle_fair,
+    names: ["fair settle, done", "fair settle, stopped", "fair settle"],
+};
+
+/// A settle on lent words that need not be sound.
+pub fn settle(settle: &Settle, words: &Lent<u16>, budget: u32, tally: &mut Tally) -> Compared {
+    let [done_name, stopped_name, name] = settle.names;
     let (mut settled, mut expected) = (words.clone(), words.clone());
     let (mut arrivals, mut done) = (7_777, 8_888);
-    let answer = raw::settle(settled.part_mut(), budget, &mut arrivals, &mut done);
-    let right = second::settle(expected.part_mut(), budget);
+    let answer = (settle.raw)(settled.part_mut(), budget, &mut arrivals, &mut done);
+    let right = (settle.second)(expected.part_mut(), budget);
     let call = match right {
-        Ok(right) if right.done => "settle, done",
-        Ok(_) => "settle, stopped",
-        Err(_) => "settle",
+        Ok(right) if right.done => done_name,
+        Ok(_) => stopped_name,
+        Err(_) => name,
     };
     tally.answer(call, number(&right));
-    same("settle: answer", answer, number(&right))?;
+    same(&format!("{name}: answer"), answer, number(&right))?;
     let numbers = right.map_or((7_777, 8_888), |right| (right.arrivals, u32::from(right.done)));
-    same("settle: lent numbers", (arrivals, done), numbers)?;
-    settled.same(&expected, "settle: world")
+    same(&format!("{name}: lent numbers"), (arrivals, done), numbers)?;
+    settled.same(&expected, &format!("{name}: world"))?;
+    let mut wrapped = words.clone();
+    let numbers = (settle.wrapper)(wrapped.part_mut(), budget);
+    let numbers = numbers.map(|settled| (settled.arrivals, settled.done)).map_err(|refusal| refusal.number());
+    let right = right.map(|settled| (settled.arrivals, settled.done)).map_err(Refusal::number);
+    same(&format!("{name}: wrapper"), numbers, right)?;
+    wrapped.same(&expected, &format!("{name}: world of the wrapper"))
 }
 
 pub fn replay(words: &Lent<u16>, journal: &[u8], random: &mut Random, tally: &mut Tally) -> Compared {

@@ -39,8 +39,28 @@ pub fn world(random: &mut Random, starts: &[Start]) -> World {
     world
 }
 
+/// A world to settle: one time in two with some processes crashed.
+pub fn to_settle(random: &mut Random, start: Start) -> World {
+    let mut world = world(random, &[start]);
+    if random.one_in(2) {
+        crashes(random, &mut world);
+    }
+    world
+}
+
+/// A budget for a settle that needs so many arrivals, with its kind.
+pub fn budget(random: &mut Random, needed: u32) -> (&'static str, u32) {
+    match random.below(6) {
+        0 => ("settle, none allowed", 0),
+        1 => ("settle, as many as needed", needed),
+        2 => ("settle, one fewer than needed", needed.max(1) - 1),
+        3 => ("settle, all allowed", u32::MAX),
+        _ => ("settle, any budget", random.below(needed as usize + 10) as u32),
+    }
+}
+
 /// Crashes some processes, whose letters are left in flight; one time in two nothing else is to come.
-pub fn crashes(random: &mut Random, world: &mut World) {
+fn crashes(random: &mut Random, world: &mut World) {
     let alone = random.one_in(2);
     if alone {
         world.settle(u32::MAX);
@@ -51,6 +71,15 @@ pub fn crashes(random: &mut Random, world: &mut World) {
             let mask = random.between(1, (1 << world.groups()) - 1) as u8;
             let _ = world.step(&record::multicast(process, mask));
         }
+        let _ = world.step(&record::crash(process));
+    }
+}
+
+/// Crashes the first processes, up to the last but one.
+pub fn crash_first(random: &mut Random, world: &mut World) {
+    let last = world.processes.len() - 1;
+    let some = random.between(0, last);
+    for process in 0..random.pick(&[some, last]) {
         let _ = world.step(&record::crash(process));
     }
 }

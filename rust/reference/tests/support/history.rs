@@ -4,6 +4,7 @@
 use reference::record::Record;
 use reference::world::{ProcessSet, World, MESSAGES};
 
+#[derive(Clone)]
 pub struct History {
     events: Vec<Event>,
     trust_sets: Vec<ProcessSet>,

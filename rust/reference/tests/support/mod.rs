@@ -6,6 +6,7 @@ pub mod history;
 
 use reference::journal;
 use reference::record::{self, Record};
+use reference::settle::Settled;
 use reference::world::{Kind, Letter, World};
 use reference::Refusal;
 use std::fs;
@@ -49,6 +50,19 @@ pub fn logs(world: &World, process: usize) -> (&[usize], &[usize]) {
 
 /// A settle that may make so many arrivals says done.
 pub const BUDGET: u32 = 33_792;
+
+/// The settle that takes the lowest letter first, and the one that serves processes in turn.
+pub type Settle = fn(&mut World, u32) -> Settled;
+pub const SETTLES: [Settle; 2] = [World::settle, World::settle_fair];
+
+/// Each settle, allowed the whole budget on a copy of the world: what it says, and what it leaves.
+pub fn each_settle(world: &World, check: impl Fn(Settled, &World)) {
+    for settle in SETTLES {
+        let mut after = world.clone();
+        let settled = settle(&mut after, BUDGET);
+        check(settled, &after);
+    }
+}
 
 /// Each message that a live process multicast or that any process FIFO-delivered is in the FIFO log of every live
 /// addressee.

@@ -1,0 +1,232 @@
+-- `serving::serve` meets its contract. The loop's invariant: the world is sound, index and queues are its, and settling by
+-- turns goes on from it, in the turn reached, with what is left of the budget. Assumes nothing.
+use mathlib.Core.Path.{_≡_, refl, sym, ap, _∙_}
+use mathlib.Core.List.{List}
+use Prim.Native.Nat.{ℕ, _+_, _-_, _≤_, _<_}
+use native.Mathlib.Nat.{sub-zero}
+use native.Mathlib.Omega.{arith}
+use lib.ListN.{getD}
+use Rattle.definitions.specs.General.{gives}
+use Rattle.definitions.specs.World.{view}
+use Rattle.definitions.specs.Settle.{Settled, by-turns}
+use Rattle.definitions.specs.Words.{settle-words}
+use Rattle.sets.specs.Lowest.{lowest}
+use Rattle.world.specs.SoundLaws.{size-high}
+use Rattle.settling.specs.Settling.{settling-from, settle-more, settle-done, settle-stopped}
+use Rattle.serving.specs.Serving.{Turning, turning-first, turning-none, turning-found, turning-low, turning-serves, turning-next}
+use borrow.Author.Needs.{needs}
+use Rattle.serving.proofs.serve.Statement.{statement}
+use Rattle.serving.proofs.serve.Tie as tie
+
+abbrev Inv-loop : tie.InvT-loop
+Inv-loop w₀ x₀ a₀ budget up quiescent₀ turn₀ made₀ w x a quiescent turn made =
+    (made ≤ budget) × Turning w x a up quiescent turn
+    × (settle-words by-turns w₀ budget ≡ settling-from by-turns (budget - made) made turn w)
+
+abbrev μ-loop : tie.MeasureT-loop
+μ-loop w₀ x₀ a₀ budget up quiescent₀ turn₀ made₀ w x a quiescent turn made = budget - made
+
+up-mask-requires : tie.Need-up-mask-requires Inv-loop μ-loop
+up-mask-requires c κs = let v = c .before .before .before .before .pre .0 in (v .long, size-high _ (v .reads))
+
+gather-requires : tie.Need-gather-requires Inv-loop μ-loop
+gather-requires c κs =
+    let b = c .before .before .before .before .before .before .before in (b .pre .0 .long, b .pre .0 .reads, c .before .before .up-mask .ensures, b .pre .2)
+
+loop-holds : tie.Need-loop-holds Inv-loop μ-loop
+unfolding settle-words
+loop-holds c =
+    let b = c .before .before .before .before .before .before .before .before .before .before in
+    let q = c .before .before .gather .ensures in (
+      omega arith,
+      turning-first (b .pre .0) (c .before .before .before .before .before .up-mask .ensures) (b .pre .1) q,
+      rw (sub-zero (b .args .budget)),
+    )
+
+slice-read-served : tie.Need-slice-read-served Inv-loop μ-loop
+slice-read-served c = omega (arith, c .before .before .loop .inv .1 .queues .long)
+
+served-requires : tie.Need-served-requires Inv-loop μ-loop
+served-requires c κs =
+    let g = c .before .before .loop .inv .1 in omega (arith, g .turn, size-high _ (g .sound .reads))
+
+same-length : tie.Need-same-length Inv-loop μ-loop
+same-length c = c .before .before .before .before .loop .inv .1 .sound .long ∙ sym (c .before .before .before .before .before .before .before .before .before .before .before .before .before .before .before .pre .0 .long)
+
+same-length-2 : tie.Need-same-length-2 Inv-loop μ-loop
+same-length-2 c = c .before .before .before .before .loop .inv .1 .index .long ∙ sym (c .before .before .before .before .before .before .before .before .before .before .before .before .before .before .before .pre .1 .long)
+
+same-length-3 : tie.Need-same-length-3 Inv-loop μ-loop
+same-length-3 c = c .before .before .before .before .loop .inv .1 .queues .long ∙ sym (c .before .before .before .before .before .before .before .before .before .before .before .before .before .before .before .pre .2 .long)
+
+returns : tie.Need-returns Inv-loop μ-loop
+returns c =
+    let l = c .before .before .before .before in
+    let e = l .loop .inv .2
+    ∙ settle-done by-turns _ (l .loop .made) (l .loop .turn) (l .loop .w)
+    (turning-none (l .loop .inv .1) (c .before .served .ensures) (c .if1 .taken)) in
+    (sym (ap (λ (z : Settled (List ℕ)). gives (z .ending)) e), sym (ap (λ (z : Settled (List ℕ)). z .world) e))
+
+add-lowest : tie.Need-add-lowest Inv-loop μ-loop
+add-lowest c = omega (arith, c .if1 .left)
+
+mul-lowest : tie.Need-mul-lowest Inv-loop μ-loop
+mul-lowest c = omega (arith, c .if1 .left)
+
+-- somebody waits: the process is below 16, its message below 64
+waits : (s : tie.After-served Inv-loop μ-loop) → s .served .result < 64
+    → (s .served .result < 16) × (lowest (getD (s .before .before .before .loop .a) (1024 + s .served .result) 0) < 64)
+waits s l =
+    let z = turning-low (s .before .before .before .loop .inv .1) (s .served .ensures) l refl refl in (z .4, z .1)
+
+slice-read-lowest : tie.Need-slice-read-lowest Inv-loop μ-loop
+slice-read-lowest c =
+    let s = c .before .before in
+    omega (arith, waits s (c .before .if1 .left) .0, s .before .before .before .loop .inv .1 .queues .long)
+
+lowest-requires : tie.Need-lowest-requires Inv-loop μ-loop
+lowest-requires c κs = tt
+
+-- the process and the message
+low : (c : tie.After-lowest Inv-loop μ-loop) → (c .before .before .before .served .result < 16) × (c .lowest .result < 64)
+low c = let z = waits (c .before .before .before) (c .before .before .if1 .left) in (z .0, omega (arith, z .1, c .lowest .ensures))
+
+mul-lowest-2 : tie.Need-mul-lowest-2 Inv-loop μ-loop
+mul-lowest-2 c = omega (arith, low c .1)
+
+add-lowest-2 : tie.Need-add-lowest-2 Inv-loop μ-loop
+add-lowest-2 c = omega (arith, low c .0, low c .1)
+
+mul-lowest-3 : tie.Need-mul-lowest-3 Inv-loop μ-loop
+mul-lowest-3 c = omega (arith, low c .0, low c .1)
+
+slice-read-lowest-2 : tie.Need-slice-read-lowest-2 Inv-loop μ-loop
+slice-read-lowest-2 c =
+    let o = c .before in omega (arith, low o .0, low o .1, c .before .before .before .before .before .before .before .loop .inv .1 .queues .long)
+
+lowest-requires-2 : tie.Need-lowest-requires-2 Inv-loop μ-loop
+lowest-requires-2 c κs = tt
+
+test-requires : tie.Need-test-requires Inv-loop μ-loop
+test-requires c κs = low (c .before .before) .0
+
+serve-one-requires : tie.Need-serve-one-requires Inv-loop μ-loop
+serve-one-requires c κs =
+    let o = c .before .before .before .before in
+    let m = o .before .before in
+    let s = m .before .before .before in
+    turning-serves (s .before .before .before .loop .inv .1) (s .served .ensures) (m .before .before .if1 .left) (m .lowest .ensures)
+    (o .lowest2 .ensures) (c .before .before .before .test .ensures)
+
+set-requires : tie.Need-set-requires Inv-loop μ-loop
+set-requires c κs = low (c .before .before .before .before .before .before .before .before .before .before .before .before .before) .0
+
+add-turn : tie.Need-add-turn Inv-loop μ-loop
+add-turn c = omega (arith, low (c .before .before .before .before .before .before .before .before .before .before .before .before .before .before) .0)
+
+add-made : tie.Need-add-made Inv-loop μ-loop
+add-made c =
+    let l = c .before .before .before .before .before .before .before .before .before .before .before .before .before .before .before .before .before .before .before .before in omega (arith, c .before .before .before .before .before .before .before .before .before .before .before .before .before .before .before .before .before .before .before .loop-test .taken, l .before .before .before .before .before .before .before .before .before .before .before .fits .budget .fits)
+
+loop-less : tie.Need-loop-less Inv-loop μ-loop
+loop-less c = omega (arith, c .before .before .before .before .before .before .before .before .before .before .before .before .before .before .before .before .before .before .before .loop-test .taken)
+
+loop-again : tie.Need-loop-again Inv-loop μ-loop
+loop-again c =
+    let o = c .before .before .before .before .before .before .before .before .before .before .before .before in
+    let m = o .before .before in
+    let s = m .before .before .before in
+    let l = s .before .before .before in
+    let v = l .loop .inv in
+    let more = c .before .before .before .before .before .before .before .before .before .before .before .before .before .before .before .before .before .before .before .loop-test .taken in
+    let z = c .before .before .before .before .before .before .before .serve-one .ensures in
+    let found = turning-found (v .1) (s .served .ensures) (m .before .before .if1 .left) (m .lowest .ensures) (o .lowest2 .ensures) in (
+      omega (arith, more),
+      turning-next (v .1) (s .served .ensures) (m .before .before .if1 .left) (m .lowest .ensures) (o .lowest2 .ensures) z (c .set .ensures),
+      v .2 ∙ settle-more by-turns (l .before .before .before .before .before .before .before .before .before .before .before .args .budget) (l .loop .made) (l .loop .turn) (l .loop .w) _ _ _ _ (omega (arith, more)) found
+          ∙ ap (λ (u : List ℕ). settling-from by-turns (l .before .before .before .before .before .before .before .before .before .before .before .args .budget - (l .loop .made + 1)) (l .loop .made + 1)
+          (s .served .result + 1) u) (sym (z .words)),
+    )
+
+slice-read-served-2 : tie.Need-slice-read-served-2 Inv-loop μ-loop
+slice-read-served-2 c = omega (arith, c .before .before .loop .inv .1 .queues .long)
+
+served-requires-2 : tie.Need-served-requires-2 Inv-loop μ-loop
+served-requires-2 c κs =
+    let g = c .before .before .loop .inv .1 in omega (arith, g .turn, size-high _ (g .sound .reads))
+
+same-length-4 : tie.Need-same-length-4 Inv-loop μ-loop
+same-length-4 c = c .before .before .before .before .loop .inv .1 .sound .long ∙ sym (c .before .before .before .before .before .before .before .before .before .before .before .before .before .before .before .pre .0 .long)
+
+same-length-5 : tie.Need-same-length-5 Inv-loop μ-loop
+same-length-5 c = c .before .before .before .before .loop .inv .1 .index .long ∙ sym (c .before .before .before .before .before .before .before .before .before .before .before .before .before .before .before .pre .1 .long)
+
+same-length-6 : tie.Need-same-length-6 Inv-loop μ-loop
+same-length-6 c = c .before .before .before .before .loop .inv .1 .queues .long ∙ sym (c .before .before .before .before .before .before .before .before .before .before .before .before .before .before .before .pre .2 .long)
+
+returns-2 : tie.Need-returns-2 Inv-loop μ-loop
+returns-2 c =
+    let l = c .before .before .before .before in
+    let e = l .loop .inv .2
+    ∙ settle-stopped by-turns (l .before .before .before .before .before .before .before .before .before .before .before .args .budget) (l .loop .made) (l .loop .turn) (l .loop .w) _ _ _ _
+    (omega (arith, c .before .before .before .loop-test .left)) (turning-found (l .loop .inv .1) (c .before .served2 .ensures) (c .if2 .taken) refl refl) in
+    (sym (ap (λ (z : Settled (List ℕ)). gives (z .ending)) e), sym (ap (λ (z : Settled (List ℕ)). z .world) e))
+
+same-length-7 : tie.Need-same-length-7 Inv-loop μ-loop
+same-length-7 c = c .before .before .before .before .loop .inv .1 .sound .long ∙ sym (c .before .before .before .before .before .before .before .before .before .before .before .before .before .before .before .pre .0 .long)
+
+same-length-8 : tie.Need-same-length-8 Inv-loop μ-loop
+same-length-8 c = c .before .before .before .before .loop .inv .1 .index .long ∙ sym (c .before .before .before .before .before .before .before .before .before .before .before .before .before .before .before .pre .1 .long)
+
+same-length-9 : tie.Need-same-length-9 Inv-loop μ-loop
+same-length-9 c = c .before .before .before .before .loop .inv .1 .queues .long ∙ sym (c .before .before .before .before .before .before .before .before .before .before .before .before .before .before .before .pre .2 .long)
+
+returns-3 : tie.Need-returns-3 Inv-loop μ-loop
+returns-3 c =
+    let l = c .before .before .before .before in
+    let e = l .loop .inv .2
+    ∙ settle-done by-turns _ (l .loop .made) (l .loop .turn) (l .loop .w)
+    (turning-none (l .loop .inv .1) (c .before .served2 .ensures) (c .if2 .left)) in
+    (sym (ap (λ (z : Settled (List ℕ)). gives (z .ending)) e), sym (ap (λ (z : Settled (List ℕ)). z .world) e))
+
+pub serve-spec : {M : Type 1} → statement M
+serve-spec =
+    tie.close
+    (tie.spec
+    Inv-loop
+    μ-loop
+    up-mask-requires
+    gather-requires
+    loop-holds
+    slice-read-served
+    served-requires
+    same-length
+    same-length-2
+    same-length-3
+    returns
+    add-lowest
+    mul-lowest
+    slice-read-lowest
+    lowest-requires
+    mul-lowest-2
+    add-lowest-2
+    mul-lowest-3
+    slice-read-lowest-2
+    lowest-requires-2
+    test-requires
+    serve-one-requires
+    set-requires
+    add-turn
+    add-made
+    loop-less
+    loop-again
+    slice-read-served-2
+    served-requires-2
+    same-length-4
+    same-length-5
+    same-length-6
+    returns-2
+    same-length-7
+    same-length-8
+    same-length-9
+    returns-3)
