@@ -15,9 +15,9 @@ use Rattle.base.specs.Tests.{bool-cases, both, clash}
 use Rattle.base.specs.Bits.{bit-zero, with-old, with-hit, with-other}
 use Rattle.base.specs.Search.{first-law}
 use Rattle.sets.specs.Lowest.{lowest}
-use Rattle.bounds.specs.Bounds.{Bounds, bounds-words}
+use Rattle.bounds.specs.Bounds.{Bounds, bounds-state, bounds-words}
 use Rattle.index.specs.Index.{Index, Logs, index-words, logs-words}
-use Rattle.cascade.specs.Ready.{Ready}
+use Rattle.cascade.specs.Ready.{Ready, ready-state}
 use Rattle.sends.specs.Ready.{ready-words, ready-law}
 use Rattle.receiving.specs.Receiving.{bounds-marked}
 use Rattle.arrivals.specs.Hold.{hold-held, bounds-hold}
@@ -147,7 +147,7 @@ only-is : (b : Bool) (s : State) (p m : ℕ) → b ≡ true → OnlyIf b s p m �
 only-is true s p m e h = h
 only-is false s p m e h = clash e refl
 
-pub only-words : (b : Bool) (w : List ℕ) (s : State) (p m : ℕ) → w ≡ encode s → Bounds s → Bounds (view w) → p < 16
+only-words : (b : Bool) (w : List ℕ) (s : State) (p m : ℕ) → w ≡ encode s → Bounds s → Bounds (view w) → p < 16
     → OnlyIf b s p m → OnlyIf b (view w) p m
 only-words false w s p m e hs h hp z = tt
 only-words true w s p m e hs h hp z = λ x l d.
@@ -158,7 +158,7 @@ marked-number : (s : State) (k m q p : ℕ) → mark (leave s k m q p) k m q p c
 unfolding put
 marked-number s k m q p = marked-keeps s k m q p (λ t. t count) (λ _ _ _ _. refl) (λ _ _. refl)
 
-pub hold-number : (s : State) (p m : ℕ) → hold s p m count ≡ s count
+hold-number : (s : State) (p m : ℕ) → hold s p m count ≡ s count
 unfolding put
 hold-number s p m = hold-cases (λ t. t count ≡ s count) s p m (λ _. refl) (λ _. refl)
 
@@ -174,7 +174,7 @@ only-marked true s k m q p h = λ x l d.
     (λ t v. ready-same p x t (put t (marks p m) v) (put-same-test p x t (marks p m) v (λ z. d (sym (z .1)))))
     ∙ h x (omega (arith, marked-number s k m q p))
 
-pub only-hold : (b : Bool) (s : State) (p m : ℕ) → OnlyIf b s p m → OnlyIf b (hold s p m) p m
+only-hold : (b : Bool) (s : State) (p m : ℕ) → OnlyIf b s p m → OnlyIf b (hold s p m) p m
 only-hold false s p m h = tt
 only-hold true s p m h = λ x l d.
     hold-cases (λ t. ready t p x ≡ ready s p x) s p m (λ _. refl)
@@ -206,7 +206,7 @@ module _ (b : Bool) (s : State) (p m : ℕ) (eb : b ≡ true) (h : OnlyIf b s p 
       go true q (no d) = sym (only-is b s p m eb h k (ltb-true k (s count) q) d)
 
 -- where none is ready, no cascade follows
-pub ready-none : (s : State) (p set : ℕ) → s count ≤ 64 → set ≡ 0 → Ready s p set → cascade s p ≡ s
+ready-none : (s : State) (p set : ℕ) → s count ≤ 64 → set ≡ 0 → Ready s p set → cascade s p ≡ s
 ready-none s p set few e h =
     cascade-none s p
     (λ m l. sym (ap (λ (b : Bool). both b (ready s p m)) (lt-ltb m (s count) l)) ∙ sym (h m (omega arith))
@@ -245,16 +245,16 @@ module _ (s : State) (x : List ℕ) (k m q p : ℕ) where
   unfolding leave put
   marked-logs z = mark-cases (λ t. Logs t p) (leave s k m q p) k m q p (λ _. z) (λ _. z)
 
-  pub hold-index : Index s x → Index (hold s p m) x
+  hold-index : Index s x → Index (hold s p m) x
   unfolding put
   hold-index z = hold-cases (λ t. Index t x) s p m (λ _. z) (λ _. z)
 
-  pub hold-logs : Logs s p → Logs (hold s p m) p
+  hold-logs : Logs s p → Logs (hold s p m) p
   unfolding put
   hold-logs z = hold-cases (λ t. Logs t p) s p m (λ _. z) (λ _. z)
 
 -- ---- with the message held the rest leans on the same
-module _ (w u x : List ℕ) (p m : ℕ) (only : Bool) (h : Leans w x p m only) (l : length u ≡ 20480)
+module _ (only : Bool) {w u x : List ℕ} {p m : ℕ} (h : Leans w x p m only) (l : length u ≡ 20480)
     (c : Changes w u (λ s. hold s p m)) where
   abbrev s : State
   s = hold (view w) p m
@@ -273,8 +273,17 @@ module _ (w u x : List ℕ) (p m : ℕ) (only : Bool) (h : Leans w x p m only) (
     bounds-words u s held-state bounds-s,
     index-words u s held-state bounds-s (hold-index (view w) x 0 m 0 p (h .4)),
     logs-words u s held-state bounds-s p (h .1) (hold-logs (view w) x 0 m 0 p (h .5)),
-    only-words only u s p m held-state bounds-s (bounds-words u s held-state bounds-s) (h .1) (only-hold only (view w) p m (h .6)),
+    only-words only u s p m held-state bounds-s (bounds-words u s held-state bounds-s) (h .1)
+        (only-hold only (view w) p m (h .6)),
   )
+
+  -- where none is ready then, that was all
+  pub none-follows : {set : ℕ} → set ≡ 0 → Ready (view u) p set → Changes w u (λ s. cascade (hold s p m) p)
+  none-follows {set} none told t e =
+      let b = held-leans .3 in
+      let now = c t e in
+      now ∙ ap encode (sym (ready-none (hold t p m) p set (bounds-state u (hold t p m) now b .counts) none
+      (ready-state u (hold t p m) p set now b (h .1) told)))
 
 -- ---- the words with the message held
 module _ (w : List ℕ) (p m : ℕ) (l : length w ≡ 20480) (hp : p < 16) (hm : m < 64) where

@@ -1,11 +1,6 @@
 // The functions that the archive exports. Each but the version returns 0, or the number of the refusal of document 01;
 // what else it answers goes out through a lent number. A refusal leaves everything that was lent as it was.
 use definitions::Amount;
-use definitions::Awaiting;
-use definitions::OrderNumber;
-use definitions::Previewing;
-use definitions::Replaying;
-use definitions::Settling;
 ghost use mathlib.Core.Path.{_≡_};
 ghost use lib.ListN.{length};
 ghost use Rattle.definitions.specs.General.{refusal-in, value-in};
@@ -13,7 +8,7 @@ ghost use Rattle.definitions.specs.Settle.{lowest-first, by-turns};
 ghost use Rattle.definitions.specs.Words.{making-refusal, made-words, step-refusal, stepped-words, previewed-words, NewDeliveries, preview-reply, settle-reply, settled-words, log-start, length-reply, order-reply, awaited-reply, precedes-bytes, precedes-reply};
 ghost use Rattle.definitions.specs.Journal.{needed-reply, write-refusal, written, count-reply, read-refusal, read-out};
 ghost use Rattle.definitions.specs.Replay.{Counts, replay-reply, replayed-words};
-ghost use Rattle.definitions.specs.Answers.{settling-reply, arrivals-in, done-in, kind-in, process-in, message-in, version};
+ghost use Rattle.definitions.specs.Answers.{arrivals-in, done-in, kind-in, process-in, message-in, version};
 
 // The version of the archive, as one number.
 #[no_mangle]
@@ -29,13 +24,7 @@ pub extern "C" fn wt_journal_length(size: usize, needed: &mut u32) -> u32
     ensures answer { λ r. ⌜ r ≡ refusal-in (needed-reply size) ⌝ }
     ensures value { λ _. ⌜ now (needed .exit) ≡ value-in (λ n. n) (needed-reply size) (now (needed .entry)) ⌝ }
 {
-    match journal::length_for(size) {
-        Amount::Is(n) => {
-            *needed = n as u32;
-            0
-        }
-        Amount::Refused(r) => answers::number(r),
-    }
+    telling::amount(journal::length_for(size), needed)
 }
 
 // Writes the journal of the records: 0, 16 or 17.
@@ -53,13 +42,7 @@ pub extern "C" fn wt_journal_count(journal: &[u8], count: &mut u32) -> u32
     ensures answer { λ r. ⌜ r ≡ refusal-in (count-reply (now (journal .entry))) ⌝ }
     ensures value { λ _. ⌜ now (count .exit) ≡ value-in (λ n. n) (count-reply (now (journal .entry))) (now (count .entry)) ⌝ }
 {
-    match journal::count(journal) {
-        Amount::Is(n) => {
-            *count = n as u32;
-            0
-        }
-        Amount::Refused(r) => answers::number(r),
-    }
+    telling::amount(journal::count(journal), count)
 }
 
 // Reads a journal into its records: 0, 13, 14, 15 or 17.
@@ -104,14 +87,7 @@ pub extern "C" fn wt_preview(
     ensures fifo { λ _. ⌜ now (fifo .exit) ≡ value-in (λ (d : NewDeliveries). d .fifo-number) (preview-reply (now (w .entry)) (now (step .entry)) (now (second .entry))) (now (fifo .entry)) ⌝ }
     ensures causal { λ _. ⌜ now (causal .exit) ≡ value-in (λ (d : NewDeliveries). d .causal-number) (preview-reply (now (w .entry)) (now (step .entry)) (now (second .entry))) (now (causal .entry)) ⌝ }
 {
-    match calls::preview(w, step, second) {
-        Previewing::Adds(n, k) => {
-            *fifo = n;
-            *causal = k;
-            0
-        }
-        Previewing::Refused(r) => answers::number(r),
-    }
+    telling::previewing(calls::preview(w, step, second), fifo, causal)
 }
 
 // Where the FIFO or the causal log of a process stands among the lent words, and its length: 0, 1, 2 or 5.
@@ -143,13 +119,7 @@ pub extern "C" fn wt_order(w: &[u16], m: u32, number: &mut u32) -> u32
     ensures answer { λ r. ⌜ r ≡ refusal-in (order-reply (now (w .entry)) m) ⌝ }
     ensures value { λ _. ⌜ now (number .exit) ≡ value-in (λ n. n) (order-reply (now (w .entry)) m) (now (number .entry)) ⌝ }
 {
-    match reading::order(w, m as usize) {
-        OrderNumber::Is(n) => {
-            *number = n as u32;
-            0
-        }
-        OrderNumber::Refused(r) => answers::number(r),
-    }
+    telling::order(reading::order(w, m as usize), number)
 }
 
 // Whose message is awaited by a message in the FIFO log of a process and not in its causal log: kind 0, none; 1, that of a
@@ -168,24 +138,8 @@ pub extern "C" fn wt_awaited(
     ensures of { λ _. ⌜ now (of .exit) ≡ value-in (process-in (now (of .entry))) (awaited-reply (now (w .entry)) p m) (now (of .entry)) ⌝ }
     ensures awaited { λ _. ⌜ now (awaited .exit) ≡ value-in (message-in (now (awaited .entry))) (awaited-reply (now (w .entry)) p m) (now (awaited .entry)) ⌝ }
 {
-    match reading::awaited(w, p as usize, m as usize) {
-        Awaiting::Nothing => {
-            *kind = 0;
-            0
-        }
-        Awaiting::Message(q, x) => {
-            *kind = 1;
-            *of = q;
-            *awaited = x;
-            0
-        }
-        Awaiting::Process(q) => {
-            *kind = 2;
-            *of = q;
-            0
-        }
-        Awaiting::Refused(r) => answers::number(r),
-    }
+    let answer = reading::awaited(w, p as usize, m as usize);
+    telling::awaiting(answer, kind, of, awaited)
 }
 
 // Writes for each pair of messages 1 if the first precedes the second, else 0, and gives how many different messages they
@@ -201,34 +155,7 @@ pub extern "C" fn wt_precedes(
     ensures bytes { λ _. ⌜ now (answers .exit) ≡ precedes-bytes (now (w .entry)) (now (pairs .entry)) (now (answers .entry)) ⌝ }
     ensures different { λ _. ⌜ now (different .exit) ≡ value-in (λ n. n) (precedes-reply (now (w .entry)) (now (pairs .entry)) (now (answers .entry))) (now (different .entry)) ⌝ }
 {
-    match reading::precedes(w, pairs, answers) {
-        Amount::Is(n) => {
-            *different = n as u32;
-            0
-        }
-        Amount::Refused(r) => answers::number(r),
-    }
-}
-
-// The number of a settle's answer; its arrivals are given, and 1 for done or 0 for stopped.
-fn tell(answer: Settling, arrivals: &mut u32, done: &mut u32) -> u32
-    ensures answer { λ r. ⌜ r ≡ refusal-in (settling-reply answer) ⌝ }
-    ensures arrivals { λ _. ⌜ now (arrivals .exit) ≡ value-in arrivals-in (settling-reply answer) (now (arrivals .entry)) ⌝ }
-    ensures done { λ _. ⌜ now (done .exit) ≡ value-in done-in (settling-reply answer) (now (done .entry)) ⌝ }
-{
-    match answer {
-        Settling::Done(n) => {
-            *arrivals = n;
-            *done = 1;
-            0
-        }
-        Settling::Stopped(n) => {
-            *arrivals = n;
-            *done = 0;
-            0
-        }
-        Settling::Refused(r) => answers::number(r),
-    }
+    telling::amount(reading::precedes(w, pairs, answers), different)
 }
 
 // Makes at most `budget` arrivals; gives their number, and 1 for done or 0 for stopped: 0, 1 or 2.
@@ -239,7 +166,7 @@ pub extern "C" fn wt_settle(w: &mut [u16], budget: u32, arrivals: &mut u32, done
     ensures arrivals { λ _. ⌜ now (arrivals .exit) ≡ value-in arrivals-in (settle-reply lowest-first (now (w .entry)) budget) (now (arrivals .entry)) ⌝ }
     ensures done { λ _. ⌜ now (done .exit) ≡ value-in done-in (settle-reply lowest-first (now (w .entry)) budget) (now (done .entry)) ⌝ }
 {
-    tell(calls::settle(w, budget), arrivals, done)
+    telling::settling(calls::settle(w, budget), arrivals, done)
 }
 
 // The same, the processes served in turn: 0, 1 or 2.
@@ -255,7 +182,7 @@ pub extern "C" fn wt_settle_fair(
     ensures arrivals { λ _. ⌜ now (arrivals .exit) ≡ value-in arrivals-in (settle-reply by-turns (now (w .entry)) budget) (now (arrivals .entry)) ⌝ }
     ensures done { λ _. ⌜ now (done .exit) ≡ value-in done-in (settle-reply by-turns (now (w .entry)) budget) (now (done .entry)) ⌝ }
 {
-    tell(calls::settle_fair(w, budget), arrivals, done)
+    telling::settling(calls::settle_fair(w, budget), arrivals, done)
 }
 
 // Replays a journal; gives the number of records after its setup, and how many were refused: 0, 1, 3, 13, 14 or 15.
@@ -271,12 +198,5 @@ pub extern "C" fn wt_replay(
     ensures steps { λ _. ⌜ now (steps .exit) ≡ value-in (λ (c : Counts). c .steps) (replay-reply (now (w .entry)) (now (journal .entry))) (now (steps .entry)) ⌝ }
     ensures refused { λ _. ⌜ now (refused .exit) ≡ value-in (λ (c : Counts). c .refused) (replay-reply (now (w .entry)) (now (journal .entry))) (now (refused .entry)) ⌝ }
 {
-    match replaying::replay(w, journal) {
-        Replaying::Done(n, k) => {
-            *steps = n as u32;
-            *refused = k as u32;
-            0
-        }
-        Replaying::Refused(r) => answers::number(r),
-    }
+    telling::replaying(replaying::replay(w, journal), steps, refused)
 }

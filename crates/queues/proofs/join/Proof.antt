@@ -61,7 +61,9 @@ mul-a-3 c = search needs
 slice-write-a-2 : tie.Need-slice-write-a-2
 slice-write-a-2 c =
     let b = c .before .before .before .before .before .before .before in
-    omega (arith, b .pre .0, b .pre .3, length-set (b .args .a .now) (b .args .m * 16 + b .args .p) (c .before .before .before .before .join .result))
+    let a = b .args in
+    let j = c .before .before .before .before .join .result in
+    omega (arith, b .pre .0, b .pre .3, length-set (a .a .now) (a .m * 16 + a .p) j)
 
 slice-write-a-3 : tie.Need-slice-write-a-3
 slice-write-a-3 c = search needs
@@ -72,10 +74,12 @@ same-length c = search needs
 returns : tie.Need-returns
 returns c =
     let b = c .before .before .before .before .before .before .before in
-    let a = b .args in (
-      three-long (a .a .now) (a .m) (a .p) (c .before .before .before .before .join .result) (c .before .before .join2 .result) (c .join3 .result) (b .pre .0),
-      λ f q. join-queued f (a .a .now) (a .m) (a .place) (a .p) q (b .pre .1) (b .pre .2) (b .pre .3)
-          (c .before .before .before .before .join .ensures) (c .before .before .join2 .ensures) (c .join3 .ensures),
+    let a = b .args in
+    let d = c .before .before .before .before .join in
+    let e = c .before .before .join2 in (
+      three-long (a .a .now) (a .m) (a .p) (d .result) (e .result) (c .join3 .result) (b .pre .0),
+      λ f q. join-queued f (a .a .now) (a .m) (a .place) (a .p) q (b .pre .1) (b .pre .2) (b .pre .3) (d .ensures) (e .ensures)
+          (c .join3 .ensures),
     )
 
 pub join-spec : {M : Type 1} → statement M

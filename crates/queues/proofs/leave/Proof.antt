@@ -59,8 +59,10 @@ mul-drop-3 c = search needs
 
 slice-read-drop-2 : tie.Need-slice-read-drop-2
 slice-read-drop-2 c =
-    let b = c .before .before .before .before .before .before in
-    omega (arith, b .pre .0, b .pre .3, length-set (b .args .a .now) (b .args .m * 16 + b .args .p) (c .before .before .before .drop .result))
+    let d = c .before .before .before in
+    let b = d .before .before .before in
+    let a = b .args in
+    omega (arith, b .pre .0, b .pre .3, length-set (a .a .now) (a .m * 16 + a .p) (d .drop .result))
 
 drop-requires-2 : tie.Need-drop-requires-2
 drop-requires-2 c κs = search needs
@@ -73,8 +75,10 @@ mul-a-3 c = search needs
 
 slice-write-a-2 : tie.Need-slice-write-a-2
 slice-write-a-2 c =
-    let b = c .before .before .before .before .before .before .before in
-    omega (arith, b .pre .0, b .pre .3, length-set (b .args .a .now) (b .args .m * 16 + b .args .p) (c .before .before .before .before .drop .result))
+    let d = c .before .before .before .before in
+    let b = d .before .before .before in
+    let a = b .args in
+    omega (arith, b .pre .0, b .pre .3, length-set (a .a .now) (a .m * 16 + a .p) (d .drop .result))
 
 lowest-requires-2 : tie.Need-lowest-requires-2
 lowest-requires-2 c κs = search needs
@@ -84,14 +88,16 @@ same-length-2 c = search needs
 
 returns-2 : tie.Need-returns-2
 returns-2 c =
-    let b = c .before .before .before .before .before .before .before .before .before in
+    let x = c .before .before in
+    let y = x .before .before in
+    let b = y .before .before .before .before .before in
     let a = b .args in
-    let d = c .before .before .before .before .before .before .drop in
-    let e = c .before .before .drop2 in (
+    let d = y .before .before .drop in
+    let e = x .drop2 in (
       length-set (set (a .a .now) (a .m * 16 + a .p) (d .result)) (1024 + a .p) (e .result)
           ∙ length-set (a .a .now) (a .m * 16 + a .p) (d .result) ∙ b .pre .0,
-      λ f q. left-message f (a .a .now) (a .m) (a .place) (a .p) q (b .pre .1) (b .pre .2) (b .pre .3) (d .result) (d .ensures)
-          (e .result) (omega (arith, c .before .before .before .before .before .lowest .ensures, c .before .before .before .before .if1 .left))
+      λ f q. left-message f (a .a .now) (a .m) (a .place) (a .p) q (b .pre .1) (b .pre .2) (b .pre .3) (d .result)
+          (d .ensures) (e .result) (omega (arith, y .before .lowest .ensures, y .if1 .left))
           (omega (arith, c .before .lowest2 .ensures, c .if2 .taken)) (e .ensures),
     )
 
@@ -109,14 +115,17 @@ same-length-3 c = search needs
 
 returns-3 : tie.Need-returns-3
 returns-3 c =
-    let b = c .before .before .before .before .before .before .before .before .before .before .before in
+    let z = c .before .before in
+    let x = z .before .before in
+    let y = x .before .before in
+    let b = y .before .before .before .before .before in
     let a = b .args in
-    let d = c .before .before .before .before .before .before .before .before .drop in
-    let e = c .before .before .before .before .drop2 in (
+    let d = y .before .before .drop in
+    let e = x .drop2 in (
       three-long (a .a .now) (a .m) (a .p) (d .result) (e .result) (c .drop3 .result) (b .pre .0),
-      λ f q. left-process f (a .a .now) (a .m) (a .place) (a .p) q (b .pre .1) (b .pre .2) (b .pre .3) (d .result) (d .ensures)
-          (e .result) (c .drop3 .result) (omega (arith, c .before .before .before .before .before .before .before .lowest .ensures, c .before .before .before .before .before .before .if1 .left))
-          (omega (arith, c .before .before .before .lowest2 .ensures, c .before .before .if2 .left)) (e .ensures) (c .drop3 .ensures),
+      λ f q. left-process f (a .a .now) (a .m) (a .place) (a .p) q (b .pre .1) (b .pre .2) (b .pre .3) (d .result)
+          (d .ensures) (e .result) (c .drop3 .result) (omega (arith, y .before .lowest .ensures, y .if1 .left))
+          (omega (arith, z .before .lowest2 .ensures, z .if2 .left)) (e .ensures) (c .drop3 .ensures),
     )
 
 pub leave-spec : {M : Type 1} → statement M

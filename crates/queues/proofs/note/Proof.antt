@@ -47,7 +47,9 @@ clear-requires c κs = omega (arith, low c)
 
 join-requires : tie.Need-join-requires Inv-loop μ-loop
 join-requires c κs =
-    let b = c .before .before .before .before .before .before in (c .before .before .before .before .loop .inv .0, b .pre .1, omega (arith, b .pre .2), low (c .before .before))
+    let l = c .before .before .before .before in
+    let b = l .before .before .pre in
+    (l .loop .inv .0, b .1, omega (arith, b .2), low (c .before .before))
 
 loop-less : tie.Need-loop-less Inv-loop μ-loop
 loop-less c =

@@ -39,7 +39,8 @@ add-m : tie.Need-add-m Inv-loop μ-loop
 add-m c =
     let l = c .before .before .before .before .before in
     let b = l .before .before .before .before in
-    omega (arith, c .before .before .before .before .loop-test .taken, l .before .word .ensures, count-high (view (b .args .w .now)) (b .pre .1))
+    let few = count-high (view (b .args .w .now)) (b .pre .1) in
+    omega (arith, c .before .before .before .before .loop-test .taken, l .before .word .ensures, few)
 
 loop-less : tie.Need-loop-less Inv-loop μ-loop
 loop-less c = omega (arith, c .before .before .before .before .loop-test .taken)

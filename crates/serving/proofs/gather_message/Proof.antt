@@ -21,15 +21,17 @@ abbrev μ-loop : tie.MeasureT-loop
 loop-holds : tie.Need-loop-holds Inv-loop μ-loop
 loop-holds c =
     let b = c .before .before in
-    (omega arith, b .pre .3, λ f q. queues-same q (λ x j r _ _ _. gathered-none f (view (b .args .w .now)) (b .args .m) x j r))
+    let s = view (b .args .w .now) in
+    (omega arith, b .pre .3, λ f q. queues-same q (λ x j r _ _ _. gathered-none f s (b .args .m) x j r))
 
 receivers-requires : tie.Need-receivers-requires Inv-loop μ-loop
 receivers-requires c κs =
-    let b = c .before .before .before .before in (b .pre .0, b .pre .1, omega (arith, c .loop-test .taken), omega arith, b .pre .2)
+    let b = c .before .before .before .before .pre in (b .0, b .1, omega (arith, c .loop-test .taken), omega arith, b .2)
 
 note-requires : tie.Need-note-requires Inv-loop μ-loop
 note-requires c κs =
-    (c .before .before .before .loop .inv .1, c .before .before .before .before .before .before .pre .1, omega (arith, c .before .before .loop-test .taken))
+    let l = c .before .before .before in
+    (l .loop .inv .1, l .before .before .before .pre .1, omega (arith, c .before .before .loop-test .taken))
 
 add-place : tie.Need-add-place Inv-loop μ-loop
 add-place c = omega arith
@@ -39,14 +41,15 @@ loop-less c = omega (arith, c .before .before .before .before .before .loop-test
 
 loop-again : tie.Need-loop-again Inv-loop μ-loop
 loop-again c =
-    let l = c .before .before .before .before .before .before in
+    let g = c .before .before .before .before in
+    let l = g .before .before in
     let a = l .before .before .before .args in
     let z = c .before .before .note .ensures in (
       omega (arith, c .before .before .before .before .before .loop-test .taken),
       z .0,
       λ f q. queues-same (z .1 (gathered f (view (a .w .now)) (a .m) (l .loop .place)) (l .loop .inv .2 f q))
-          (λ x j r _ _ _. gathered-more f (view (a .w .now)) (a .m) (l .loop .place) (c .before .before .before .before .receivers .result) x j r
-          (c .before .before .before .before .receivers .ensures)),
+          (λ x j r _ _ _. gathered-more f (view (a .w .now)) (a .m) (l .loop .place) (g .receivers .result) x j r
+          (g .receivers .ensures)),
     )
 
 same-length : tie.Need-same-length Inv-loop μ-loop

@@ -47,12 +47,15 @@ rest-requires c κs = c .before .loop-test .taken
 
 note-message-requires : tie.Need-note-message-requires Inv-loop μ-loop
 note-message-requires c κs =
-    let b = c .before .before .before .before .before .before .before in (b .pre .0, b .pre .1, omega (arith, low (c .before .before), b .pre .1), b .pre .2, c .before .before .before .before .loop .inv .0)
+    let l = c .before .before .before .before in
+    let b = l .before .before .before .pre in
+    (b .0, b .1, omega (arith, low (c .before .before)), b .2, l .loop .inv .0)
 
 loop-less : tie.Need-loop-less Inv-loop μ-loop
 loop-less c =
-    let l = c .before .before .before .before .before .before .before in
-    sweep-less (l .loop .inv .1) (c .before .before .before .before .before .before .loop-test .taken) (c .before .before .before .before .rest .ensures)
+    let d = c .before .before .before .before in
+    let o = d .before in
+    sweep-less (o .before .before .loop .inv .1) (o .before .loop-test .taken) (d .rest .ensures)
 
 loop-again : tie.Need-loop-again Inv-loop μ-loop
 loop-again c =

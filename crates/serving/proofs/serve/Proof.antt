@@ -5,7 +5,7 @@ use mathlib.Core.List.{List}
 use Prim.Native.Nat.{ℕ, _+_, _-_, _≤_, _<_}
 use native.Mathlib.Nat.{sub-zero}
 use native.Mathlib.Omega.{arith}
-use lib.ListN.{getD}
+use lib.ListN.{length, getD}
 use Rattle.definitions.specs.General.{gives}
 use Rattle.definitions.specs.World.{view}
 use Rattle.definitions.specs.Settle.{Settled, by-turns}
@@ -26,12 +26,38 @@ Inv-loop w₀ x₀ a₀ budget up quiescent₀ turn₀ made₀ w x a quiescent t
 abbrev μ-loop : tie.MeasureT-loop
 μ-loop w₀ x₀ a₀ budget up quiescent₀ turn₀ made₀ w x a quiescent turn made = budget - made
 
+-- from the loop back to the start
+abbrev begin : tie.At-loop Inv-loop μ-loop → tie.Start Inv-loop μ-loop
+begin l = l .before .before .before .before .before .before .before .before .before .before .before
+
+-- from the process sought back to the loop
+abbrev back : tie.After-served Inv-loop μ-loop → tie.At-loop Inv-loop μ-loop
+back s = s .before .before .before
+
+-- from the message found back to the process sought
+abbrev sought : tie.After-lowest Inv-loop μ-loop → tie.After-served Inv-loop μ-loop
+sought m = m .before .before .before
+
+-- from the arrival made back to the message found
+abbrev found : tie.After-serve-one Inv-loop μ-loop → tie.After-lowest Inv-loop μ-loop
+found z = z .before .before .before .before .before .before .before
+
+-- at the loop the slices are as long as they were
+as-long : (l : tie.At-loop Inv-loop μ-loop)
+    → (length (l .loop .w) ≡ length (begin l .args .w .now)) × (length (l .loop .x) ≡ length (begin l .args .x .now))
+    × (length (l .loop .a) ≡ length (begin l .args .a .now))
+as-long l =
+    let v = l .loop .inv .1 in
+    let b = begin l .pre in
+    (v .sound .long ∙ sym (b .0 .long), v .index .long ∙ sym (b .1 .long), v .queues .long ∙ sym (b .2 .long))
+
 up-mask-requires : tie.Need-up-mask-requires Inv-loop μ-loop
 up-mask-requires c κs = let v = c .before .before .before .before .pre .0 in (v .long, size-high _ (v .reads))
 
 gather-requires : tie.Need-gather-requires Inv-loop μ-loop
 gather-requires c κs =
-    let b = c .before .before .before .before .before .before .before in (b .pre .0 .long, b .pre .0 .reads, c .before .before .up-mask .ensures, b .pre .2)
+    let b = c .before .before .before .before .before .before .before .pre in
+    (b .0 .long, b .0 .reads, c .before .before .up-mask .ensures, b .2)
 
 loop-holds : tie.Need-loop-holds Inv-loop μ-loop
 unfolding settle-words
@@ -51,13 +77,13 @@ served-requires c κs =
     let g = c .before .before .loop .inv .1 in omega (arith, g .turn, size-high _ (g .sound .reads))
 
 same-length : tie.Need-same-length Inv-loop μ-loop
-same-length c = c .before .before .before .before .loop .inv .1 .sound .long ∙ sym (c .before .before .before .before .before .before .before .before .before .before .before .before .before .before .before .pre .0 .long)
+same-length c = as-long (c .before .before .before .before) .0
 
 same-length-2 : tie.Need-same-length-2 Inv-loop μ-loop
-same-length-2 c = c .before .before .before .before .loop .inv .1 .index .long ∙ sym (c .before .before .before .before .before .before .before .before .before .before .before .before .before .before .before .pre .1 .long)
+same-length-2 c = as-long (c .before .before .before .before) .1
 
 same-length-3 : tie.Need-same-length-3 Inv-loop μ-loop
-same-length-3 c = c .before .before .before .before .loop .inv .1 .queues .long ∙ sym (c .before .before .before .before .before .before .before .before .before .before .before .before .before .before .before .pre .2 .long)
+same-length-3 c = as-long (c .before .before .before .before) .2
 
 returns : tie.Need-returns Inv-loop μ-loop
 returns c =
@@ -75,21 +101,22 @@ mul-lowest c = omega (arith, c .if1 .left)
 
 -- somebody waits: the process is below 16, its message below 64
 waits : (s : tie.After-served Inv-loop μ-loop) → s .served .result < 64
-    → (s .served .result < 16) × (lowest (getD (s .before .before .before .loop .a) (1024 + s .served .result) 0) < 64)
+    → (s .served .result < 16) × (lowest (getD (back s .loop .a) (1024 + s .served .result) 0) < 64)
 waits s l =
-    let z = turning-low (s .before .before .before .loop .inv .1) (s .served .ensures) l refl refl in (z .4, z .1)
+    let z = turning-low (back s .loop .inv .1) (s .served .ensures) l refl refl in (z .4, z .1)
 
 slice-read-lowest : tie.Need-slice-read-lowest Inv-loop μ-loop
 slice-read-lowest c =
     let s = c .before .before in
-    omega (arith, waits s (c .before .if1 .left) .0, s .before .before .before .loop .inv .1 .queues .long)
+    omega (arith, waits s (c .before .if1 .left) .0, back s .loop .inv .1 .queues .long)
 
 lowest-requires : tie.Need-lowest-requires Inv-loop μ-loop
 lowest-requires c κs = tt
 
 -- the process and the message
-low : (c : tie.After-lowest Inv-loop μ-loop) → (c .before .before .before .served .result < 16) × (c .lowest .result < 64)
-low c = let z = waits (c .before .before .before) (c .before .before .if1 .left) in (z .0, omega (arith, z .1, c .lowest .ensures))
+low : (c : tie.After-lowest Inv-loop μ-loop) → (sought c .served .result < 16) × (c .lowest .result < 64)
+low c =
+    let z = waits (sought c) (c .before .before .if1 .left) in (z .0, omega (arith, z .1, c .lowest .ensures))
 
 mul-lowest-2 : tie.Need-mul-lowest-2 Inv-loop μ-loop
 mul-lowest-2 c = omega (arith, low c .1)
@@ -102,7 +129,7 @@ mul-lowest-3 c = omega (arith, low c .0, low c .1)
 
 slice-read-lowest-2 : tie.Need-slice-read-lowest-2 Inv-loop μ-loop
 slice-read-lowest-2 c =
-    let o = c .before in omega (arith, low o .0, low o .1, c .before .before .before .before .before .before .before .loop .inv .1 .queues .long)
+    let m = c .before in omega (arith, low m .0, low m .1, back (sought m) .loop .inv .1 .queues .long)
 
 lowest-requires-2 : tie.Need-lowest-requires-2 Inv-loop μ-loop
 lowest-requires-2 c κs = tt
@@ -114,38 +141,48 @@ serve-one-requires : tie.Need-serve-one-requires Inv-loop μ-loop
 serve-one-requires c κs =
     let o = c .before .before .before .before in
     let m = o .before .before in
-    let s = m .before .before .before in
-    turning-serves (s .before .before .before .loop .inv .1) (s .served .ensures) (m .before .before .if1 .left) (m .lowest .ensures)
+    let s = sought m in
+    turning-serves (back s .loop .inv .1) (s .served .ensures) (m .before .before .if1 .left) (m .lowest .ensures)
     (o .lowest2 .ensures) (c .before .before .before .test .ensures)
 
 set-requires : tie.Need-set-requires Inv-loop μ-loop
-set-requires c κs = low (c .before .before .before .before .before .before .before .before .before .before .before .before .before) .0
+set-requires c κs = low (found (c .before .before .before .before .before .before)) .0
 
 add-turn : tie.Need-add-turn Inv-loop μ-loop
-add-turn c = omega (arith, low (c .before .before .before .before .before .before .before .before .before .before .before .before .before .before) .0)
+add-turn c = omega (arith, low (found (c .before .before .before .before .before .before .before)) .0)
+
+-- the budget is not used up
+more : (s : tie.After-served Inv-loop μ-loop) → back s .loop .made < begin (back s) .args .budget
+more s = s .before .before .loop-test .taken
+
+-- the arrival that the loop has made when it comes round
+abbrev round : tie.After-set Inv-loop μ-loop → tie.After-serve-one Inv-loop μ-loop
+round c = c .before .before .before .before .before .before .before
 
 add-made : tie.Need-add-made Inv-loop μ-loop
 add-made c =
-    let l = c .before .before .before .before .before .before .before .before .before .before .before .before .before .before .before .before .before .before .before .before in omega (arith, c .before .before .before .before .before .before .before .before .before .before .before .before .before .before .before .before .before .before .before .loop-test .taken, l .before .before .before .before .before .before .before .before .before .before .before .fits .budget .fits)
+    let s = sought (found (round c)) in omega (arith, more s, begin (back s) .fits .budget .fits)
 
 loop-less : tie.Need-loop-less Inv-loop μ-loop
-loop-less c = omega (arith, c .before .before .before .before .before .before .before .before .before .before .before .before .before .before .before .before .before .before .before .loop-test .taken)
+loop-less c = omega (arith, more (sought (found (round c))))
 
 loop-again : tie.Need-loop-again Inv-loop μ-loop
 loop-again c =
-    let o = c .before .before .before .before .before .before .before .before .before .before .before .before in
-    let m = o .before .before in
-    let s = m .before .before .before in
-    let l = s .before .before .before in
+    let z = round c in
+    let m = found z in
+    let o = z .before .before .before .before .before in
+    let s = sought m in
+    let l = back s in
     let v = l .loop .inv in
-    let more = c .before .before .before .before .before .before .before .before .before .before .before .before .before .before .before .before .before .before .before .loop-test .taken in
-    let z = c .before .before .before .before .before .before .before .serve-one .ensures in
-    let found = turning-found (v .1) (s .served .ensures) (m .before .before .if1 .left) (m .lowest .ensures) (o .lowest2 .ensures) in (
-      omega (arith, more),
-      turning-next (v .1) (s .served .ensures) (m .before .before .if1 .left) (m .lowest .ensures) (o .lowest2 .ensures) z (c .set .ensures),
-      v .2 ∙ settle-more by-turns (l .before .before .before .before .before .before .before .before .before .before .before .args .budget) (l .loop .made) (l .loop .turn) (l .loop .w) _ _ _ _ (omega (arith, more)) found
-          ∙ ap (λ (u : List ℕ). settling-from by-turns (l .before .before .before .before .before .before .before .before .before .before .before .args .budget - (l .loop .made + 1)) (l .loop .made + 1)
-          (s .served .result + 1) u) (sym (z .words)),
+    let budget = begin l .args .budget in
+    let some = m .before .before .if1 .left in
+    let e = z .serve-one .ensures in
+    let letter = turning-found (v .1) (s .served .ensures) some (m .lowest .ensures) (o .lowest2 .ensures) in (
+      omega (arith, more s),
+      turning-next (v .1) (s .served .ensures) some (m .lowest .ensures) (o .lowest2 .ensures) e (c .set .ensures),
+      v .2 ∙ settle-more by-turns budget (l .loop .made) (l .loop .turn) (l .loop .w) _ _ _ _ (omega (arith, more s)) letter
+          ∙ ap (settling-from by-turns (budget - (l .loop .made + 1)) (l .loop .made + 1) (s .served .result + 1))
+          (sym (e .words)),
     )
 
 slice-read-served-2 : tie.Need-slice-read-served-2 Inv-loop μ-loop
@@ -156,30 +193,31 @@ served-requires-2 c κs =
     let g = c .before .before .loop .inv .1 in omega (arith, g .turn, size-high _ (g .sound .reads))
 
 same-length-4 : tie.Need-same-length-4 Inv-loop μ-loop
-same-length-4 c = c .before .before .before .before .loop .inv .1 .sound .long ∙ sym (c .before .before .before .before .before .before .before .before .before .before .before .before .before .before .before .pre .0 .long)
+same-length-4 c = as-long (c .before .before .before .before) .0
 
 same-length-5 : tie.Need-same-length-5 Inv-loop μ-loop
-same-length-5 c = c .before .before .before .before .loop .inv .1 .index .long ∙ sym (c .before .before .before .before .before .before .before .before .before .before .before .before .before .before .before .pre .1 .long)
+same-length-5 c = as-long (c .before .before .before .before) .1
 
 same-length-6 : tie.Need-same-length-6 Inv-loop μ-loop
-same-length-6 c = c .before .before .before .before .loop .inv .1 .queues .long ∙ sym (c .before .before .before .before .before .before .before .before .before .before .before .before .before .before .before .pre .2 .long)
+same-length-6 c = as-long (c .before .before .before .before) .2
 
 returns-2 : tie.Need-returns-2 Inv-loop μ-loop
 returns-2 c =
     let l = c .before .before .before .before in
     let e = l .loop .inv .2
-    ∙ settle-stopped by-turns (l .before .before .before .before .before .before .before .before .before .before .before .args .budget) (l .loop .made) (l .loop .turn) (l .loop .w) _ _ _ _
-    (omega (arith, c .before .before .before .loop-test .left)) (turning-found (l .loop .inv .1) (c .before .served2 .ensures) (c .if2 .taken) refl refl) in
+    ∙ settle-stopped by-turns (begin l .args .budget) (l .loop .made) (l .loop .turn) (l .loop .w) _ _ _ _
+    (omega (arith, c .before .before .before .loop-test .left))
+    (turning-found (l .loop .inv .1) (c .before .served2 .ensures) (c .if2 .taken) refl refl) in
     (sym (ap (λ (z : Settled (List ℕ)). gives (z .ending)) e), sym (ap (λ (z : Settled (List ℕ)). z .world) e))
 
 same-length-7 : tie.Need-same-length-7 Inv-loop μ-loop
-same-length-7 c = c .before .before .before .before .loop .inv .1 .sound .long ∙ sym (c .before .before .before .before .before .before .before .before .before .before .before .before .before .before .before .pre .0 .long)
+same-length-7 c = as-long (c .before .before .before .before) .0
 
 same-length-8 : tie.Need-same-length-8 Inv-loop μ-loop
-same-length-8 c = c .before .before .before .before .loop .inv .1 .index .long ∙ sym (c .before .before .before .before .before .before .before .before .before .before .before .before .before .before .before .pre .1 .long)
+same-length-8 c = as-long (c .before .before .before .before) .1
 
 same-length-9 : tie.Need-same-length-9 Inv-loop μ-loop
-same-length-9 c = c .before .before .before .before .loop .inv .1 .queues .long ∙ sym (c .before .before .before .before .before .before .before .before .before .before .before .before .before .before .before .pre .2 .long)
+same-length-9 c = as-long (c .before .before .before .before) .2
 
 returns-3 : tie.Need-returns-3 Inv-loop μ-loop
 returns-3 c =

@@ -11,9 +11,15 @@ use borrow.Author.Needs.{needs}
 use Rattle.serving.proofs.serve_one.Statement.{statement}
 use Rattle.serving.proofs.serve_one.Tie as tie
 
--- where it began
+-- where it began, from where the letter was taken; there, from what followed; that, from what was noted
 abbrev begin : tie.After-touch → tie.Start
 begin t = t .before .before .before .before .before .before .before .before .before .before
+
+abbrev taken : tie.After-post → tie.After-touch
+taken d = d .before .before .before .before .before .before
+
+abbrev posted : tie.After-note-sent → tie.After-post
+posted n = n .before .before .before .before .before .before .before
 
 leave-requires : tie.Need-leave-requires
 leave-requires c κs =
@@ -33,7 +39,7 @@ post-requires c κs =
 note-sent-requires : tie.Need-note-sent-requires
 note-sent-requires c κs =
     let d = c .before .before .before .before .before .before in
-    let t = d .before .before .before .before .before .before in
+    let t = taken d in
     let z = begin t .pre in (
       d .post .ensures .0 .0,
       z .arrives .to,
@@ -44,36 +50,40 @@ note-sent-requires c κs =
 
 same-length : tie.Need-same-length
 same-length c =
-    let d = c .before .before .before .before .before .before .before .before .before in d .post .ensures .0 .0 ∙ sym (begin (d .before .before .before .before .before .before) .pre .arrives .long)
+    let d = posted (c .before .before) in d .post .ensures .0 .0 ∙ sym (begin (taken d) .pre .arrives .long)
 
 same-length-2 : tie.Need-same-length-2
 same-length-2 c =
-    let d = c .before .before .before .before .before .before .before .before .before in d .post .ensures .1 .0 .0 .long ∙ sym (begin (d .before .before .before .before .before .before) .pre .arrives .index .long)
+    let d = posted (c .before .before) in d .post .ensures .1 .0 .0 .long ∙ sym (begin (taken d) .pre .arrives .index .long)
 
 same-length-3 : tie.Need-same-length-3
 same-length-3 c =
-    c .before .before .note-sent .ensures .0 ∙ sym (begin (c .before .before .before .before .before .before .before .before .before .before .before .before .before .before .before) .pre .queues .long)
+    let n = c .before .before in n .note-sent .ensures .0 ∙ sym (begin (taken (posted n)) .pre .queues .long)
 
 returns : tie.Need-returns
 returns c =
-    let d = c .before .before .before .before .before .before .before .before .before in
-    let t = d .before .before .before .before .before .before in
+    let n = c .before .before in
+    let d = posted n in
+    let t = taken d in
     let b = begin t in
     let z = b .pre in
     let s = view (b .args .w .now) in
     let f = parted (lettered s) (b .args .m) (b .args .place) (b .args .p) in
     served-posted z (t .touch .ensures .0 .0) (t .touch .ensures .0 .1) (d .post .ensures .0 .0) (d .post .ensures .0 .1)
     (d .post .ensures .1 .0) (d .post .result) (d .post .ensures .1 .1)
-    (c .before .before .note-sent .ensures .1 f (t .before .before .before .before .before .leave .ensures .1 (lettered s) (z .queues)))
+    (n .note-sent .ensures .1 f (t .before .before .before .before .before .leave .ensures .1 (lettered s) (z .queues)))
 
 same-length-4 : tie.Need-same-length-4
-same-length-4 c = c .before .before .before .touch .ensures .0 .0 ∙ sym (begin (c .before .before .before) .pre .arrives .long)
+same-length-4 c =
+    let t = c .before .before .before in t .touch .ensures .0 .0 ∙ sym (begin t .pre .arrives .long)
 
 same-length-5 : tie.Need-same-length-5
 same-length-5 c = refl
 
 same-length-6 : tie.Need-same-length-6
-same-length-6 c = c .before .before .before .before .before .before .before .before .leave .ensures .0 ∙ sym (begin (c .before .before .before) .pre .queues .long)
+same-length-6 c =
+    let t = c .before .before .before in
+    t .before .before .before .before .before .leave .ensures .0 ∙ sym (begin t .pre .queues .long)
 
 returns-2 : tie.Need-returns-2
 returns-2 c =

@@ -1,8 +1,8 @@
--- `engine::tell` meets its contract: each case of the answer has its number and its values. Assumes nothing.
+-- `telling::settling` meets its contract: each case of the answer has its number and its values. Assumes nothing.
 use mathlib.Core.Path.{refl}
 use borrow.Author.Needs.{needs}
-use Rattle.engine.proofs.tell.Statement.{statement}
-use Rattle.engine.proofs.tell.Tie as tie
+use Rattle.telling.proofs.settling.Statement.{statement}
+use Rattle.telling.proofs.settling.Tie as tie
 
 enum-known-answer : tie.Need-enum-known-answer
 enum-known-answer c = search needs
@@ -25,8 +25,8 @@ returns-2 c = rw (c .before .answer2 .given .1) (refl, (refl, refl))
 returns-3 : tie.Need-returns-3
 returns-3 c = rw (c .before .before .answer3 .given .1) (c .number .ensures, (refl, refl))
 
-pub tell-spec : {M : Type 1} → statement M
-tell-spec =
+pub settling-spec : {M : Type 1} → statement M
+settling-spec =
     tie.close
     (tie.spec
     enum-known-answer
