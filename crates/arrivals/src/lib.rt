@@ -86,36 +86,36 @@ fn least(a: usize, b: usize) -> usize
     if a < b { a } else { b }
 }
 
-// The rest of an arrival. A place below which it sent no letter.
-pub fn follow(w: &mut [u16], x: &mut [u64], m: usize, p: usize, only: bool) -> usize
-    requires { ⌜ Leans (now w) (now x) p m only ⌝ }
-    ensures words { λ _. ⌜ (length (now (w .exit)) ≡ 20480) × Changes (now (w .entry)) (now (w .exit)) (λ s. cascade (hold s p m) p) ⌝ }
-    ensures index { λ _. ⌜ Index (view (now (w .exit))) (now (x .exit)) × Logs (view (now (w .exit))) p ⌝ }
-    ensures place { λ r. ⌜ Silent (view (now (w .entry))) (view (now (w .exit))) r ⌝ }
-{
-    let at = take_hold(w, x, m, p);
-    let ready = ready_now(w, x, p, m, only);
-    if ready == 0 {
-        return at;
-    }
-    let sent = cascade::cascade(w, x, p, ready);
-    least(at, sets::lowest(sent) * 48 + 32 + p)
+// Where letters were sent: a place below which none was, and the messages of them all.
+pub struct Sent {
+    pub place: usize,
+    pub messages: u64,
 }
 
-// The rest of an arrival. The messages with an answer or an OK: no other letter was sent, and none but from p.
-pub fn post(w: &mut [u16], x: &mut [u64], m: usize, p: usize, only: bool) -> u64
+// The rest of an arrival, and where it sent letters: an answer for m, and OKs, none but from p.
+pub fn follow(w: &mut [u16], x: &mut [u64], m: usize, p: usize, only: bool) -> Sent
     requires { ⌜ Leans (now w) (now x) p m only ⌝ }
     ensures words { λ _. ⌜ (length (now (w .exit)) ≡ 20480) × Changes (now (w .entry)) (now (w .exit)) (λ s. cascade (hold s p m) p) ⌝ }
     ensures index { λ _. ⌜ Index (view (now (w .exit))) (now (x .exit)) × Logs (view (now (w .exit))) p ⌝ }
-    ensures sent { λ r. ⌜ Posts (view (now (w .entry))) (view (now (w .exit))) p r ⌝ }
+    ensures place { λ r. ⌜ Silent (view (now (w .entry))) (view (now (w .exit))) (r .place) ⌝ }
+    ensures messages { λ r. ⌜ Posts (view (now (w .entry))) (view (now (w .exit))) p (r .messages) ⌝ }
 {
     let at = take_hold(w, x, m, p);
     let ready = ready_now(w, x, p, m, only);
     if ready == 0 {
-        return sets::join_if(0, m, at < NOWHERE);
+        let answered = sets::join_if(0, m, at < NOWHERE);
+        return Sent {
+            place: at,
+            messages: answered,
+        };
     }
     let oks = cascade::cascade(w, x, p, ready);
-    sets::join_if(oks, m, at < NOWHERE)
+    let place = least(at, sets::lowest(oks) * 48 + 32 + p);
+    let all = sets::join_if(oks, m, at < NOWHERE);
+    Sent {
+        place: place,
+        messages: all,
+    }
 }
 
 // The whole arrival. A place below which it sent no letter.
@@ -132,7 +132,7 @@ pub fn arrive(
     ensures { λ r. ⌜ Arrived (now (w .entry)) (now (w .exit)) (now (x .exit)) k m q p r ⌝ }
 {
     if touch(w, x, k, m, q, p, quiescent) {
-        return follow(w, x, m, p, quiescent);
+        return follow(w, x, m, p, quiescent).place;
     }
     NOWHERE
 }

@@ -1,11 +1,11 @@
 -- A letter leaves flight, and an OK sets its mark, on words. Assumes nothing.
-use mathlib.Core.Path.{_≡_, sym, ap, _∙_}
+use mathlib.Core.Path.{_≡_, ap, _∙_}
 use mathlib.Core.Bool.{Bool, true, false}
 use mathlib.Core.List.{List}
 use Prim.Native.Nat.{ℕ, _<_}
 use lib.Dec.{eqb}
-use borrow.Author.Tests.{eq-eqb, ne-eqb}
 use lib.ListN.{set}
+use lib.Seq.{set-getD}
 use Rattle.definitions.specs.General.{with, without, pick}
 use Rattle.definitions.specs.World.{marks, flight, addr, State, put, encode, view}
 use Rattle.definitions.specs.Machine.{leave, mark}
@@ -30,17 +30,16 @@ leave-law w k m q p {x} {y} hk hm hq ex ey s e =
     ∙ ap (λ (v : ℕ). encode (put s (flight m k q) v))
     (ey ∙ ap (λ (z : ℕ). without z p) (ex ∙ reads-cell w (flight m k q) (hm, hk, hq) s e))
 
--- ---- the mark of an OK
-pub mark-law : (w : List ℕ) (k m q p : ℕ) {x y : ℕ} → k ≡ 2 → m < 64 → p < 16 → x ≡ view w (marks p m)
-    → y ≡ with x q → Changes w (set w (addr (marks p m)) y) (λ s. mark s k m q p)
+-- ---- the mark of an OK; of another letter the word is written as it was
+pub mark-law : (w : List ℕ) (k m q p : ℕ) {x y : ℕ} → m < 64 → p < 16 → x ≡ view w (marks p m)
+    → y ≡ pick (eqb k 2) (with x q) x → Changes w (set w (addr (marks p m)) y) (λ s. mark s k m q p)
 unfolding mark
-mark-law w k m q p {x} {y} hk hm hp ex ey s e =
-    ap (λ (l : List ℕ). set l (addr (marks p m)) y) e ∙ set-encode s (marks p m) y (hp, hm)
-    ∙ ap (λ (v : ℕ). encode (put s (marks p m) v))
-    (ey ∙ ap (λ (z : ℕ). with z q) (ex ∙ reads-cell w (marks p m) (hp, hm) s e))
-    ∙ sym (ap (λ (b : Bool). encode (pick b (put s (marks p m) (with (s (marks p m)) q)) s)) (eq-eqb k 2 hk))
-
-pub mark-none : (w : List ℕ) (k m q p : ℕ) → (k ≡ 2 → ⊥) → Changes w w (λ s. mark s k m q p)
-unfolding mark
-mark-none w k m q p n s e =
-    e ∙ sym (ap (λ (b : Bool). encode (pick b (put s (marks p m) (with (s (marks p m)) q)) s)) (ne-eqb k 2 n))
+mark-law w k m q p {x} {y} hm hp ex ey s e = go (eqb k 2) ey
+  where
+    go : (b : Bool) → y ≡ pick b (with x q) x
+        → set w (addr (marks p m)) y ≡ encode (pick b (put s (marks p m) (with (s (marks p m)) q)) s)
+    go true z =
+        ap (λ (l : List ℕ). set l (addr (marks p m)) y) e ∙ set-encode s (marks p m) y (hp, hm)
+        ∙ ap (λ (v : ℕ). encode (put s (marks p m) v))
+        (z ∙ ap (λ (v : ℕ). with v q) (ex ∙ reads-cell w (marks p m) (hp, hm) s e))
+    go false z = ap (set w (addr (marks p m))) (z ∙ ex) ∙ set-getD w (addr (marks p m)) 0 ∙ e

@@ -85,8 +85,8 @@ fn serve_one(
 {
     queues::leave(a, m, place, p);
     if arrivals::touch(w, x, place / 16, m, place % 16, p, known) {
-        let sent = arrivals::post(w, x, m, p, known);
-        note_sent(w, a, up, p, sent);
+        let sent = arrivals::follow(w, x, m, p, known);
+        note_sent(w, a, up, p, sent.messages);
     }
 }
 

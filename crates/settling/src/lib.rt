@@ -87,9 +87,9 @@ fn batch(
         done += 1;
         if arrivals::touch(w, x, k, m, q, p, known) {
             calm = masks::set(calm, p);
-            let r = arrivals::follow(w, x, m, p, known);
-            if r <= here {
-                return so_far(done, calm, next_place(k, m, q, r));
+            let sent = arrivals::follow(w, x, m, p, known);
+            if sent.place <= here {
+                return so_far(done, calm, next_place(k, m, q, sent.place));
             }
         }
     }

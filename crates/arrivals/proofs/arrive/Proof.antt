@@ -31,7 +31,7 @@ returns c =
     let a = b .args in
     arrived-followed (a .w .now) (t .touch .last .0) (a .x .now) (a .k) (a .m) (a .q) (a .p) (a .quiescent) (b .pre)
     (t .touch .ensures .0 .0) (t .touch .ensures .0 .1) (f .follow .ensures .0 .0) (f .follow .ensures .0 .1)
-    (f .follow .ensures .1 .0) (f .follow .ensures .1 .1)
+    (f .follow .ensures .1 .0) (f .follow .ensures .1 .1 .0)
 
 same-length-3 : tie.Need-same-length-3
 same-length-3 c = search needs

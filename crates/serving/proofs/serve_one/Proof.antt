@@ -15,10 +15,10 @@ use Rattle.serving.proofs.serve_one.Tie as tie
 abbrev begin : tie.After-touch → tie.Start
 begin t = t .before .before .before .before .before .before .before .before .before .before
 
-abbrev taken : tie.After-post → tie.After-touch
+abbrev taken : tie.After-follow → tie.After-touch
 taken d = d .before .before .before .before .before .before
 
-abbrev posted : tie.After-note-sent → tie.After-post
+abbrev posted : tie.After-note-sent → tie.After-follow
 posted n = n .before .before .before .before .before .before .before
 
 leave-requires : tie.Need-leave-requires
@@ -31,8 +31,8 @@ touch-requires c κs =
     let z = c .before .before .before .before .before .before .before .before .before .pre .arrives in
     (z .long, z .to, z .message, z .bounds, z .index, z .kind, z .from)
 
-post-requires : tie.Need-post-requires
-post-requires c κs =
+follow-requires : tie.Need-follow-requires
+follow-requires c κs =
     let t = c .before .before .before .before .before in
     follows _ _ _ _ _ _ _ _ (begin t .pre .arrives) (t .touch .ensures .0 .0) (t .touch .ensures .0 .1)
 
@@ -41,20 +41,20 @@ note-sent-requires c κs =
     let d = c .before .before .before .before .before .before in
     let t = taken d in
     let z = begin t .pre in (
-      d .post .ensures .0 .0,
+      d .follow .ensures .0 .0,
       z .arrives .to,
-      followed-ups z (t .touch .ensures .0 .0) (t .touch .ensures .0 .1) (d .post .ensures .0 .0) (d .post .ensures .0 .1)
-          (d .post .ensures .1 .0),
+      followed-ups z (t .touch .ensures .0 .0) (t .touch .ensures .0 .1) (d .follow .ensures .0 .0) (d .follow .ensures .0 .1)
+          (d .follow .ensures .1 .0),
       t .before .before .before .before .before .leave .ensures .0,
     )
 
 same-length : tie.Need-same-length
 same-length c =
-    let d = posted (c .before .before) in d .post .ensures .0 .0 ∙ sym (begin (taken d) .pre .arrives .long)
+    let d = posted (c .before .before) in d .follow .ensures .0 .0 ∙ sym (begin (taken d) .pre .arrives .long)
 
 same-length-2 : tie.Need-same-length-2
 same-length-2 c =
-    let d = posted (c .before .before) in d .post .ensures .1 .0 .0 .long ∙ sym (begin (taken d) .pre .arrives .index .long)
+    let d = posted (c .before .before) in d .follow .ensures .1 .0 .0 .long ∙ sym (begin (taken d) .pre .arrives .index .long)
 
 same-length-3 : tie.Need-same-length-3
 same-length-3 c =
@@ -69,8 +69,8 @@ returns c =
     let z = b .pre in
     let s = view (b .args .w .now) in
     let f = parted (lettered s) (b .args .m) (b .args .place) (b .args .p) in
-    served-posted z (t .touch .ensures .0 .0) (t .touch .ensures .0 .1) (d .post .ensures .0 .0) (d .post .ensures .0 .1)
-    (d .post .ensures .1 .0) (d .post .result) (d .post .ensures .1 .1)
+    served-posted z (t .touch .ensures .0 .0) (t .touch .ensures .0 .1) (d .follow .ensures .0 .0) (d .follow .ensures .0 .1)
+    (d .follow .ensures .1 .0) (d .follow .result .messages) (d .follow .ensures .1 .1 .1)
     (n .note-sent .ensures .1 f (t .before .before .before .before .before .leave .ensures .1 (lettered s) (z .queues)))
 
 same-length-4 : tie.Need-same-length-4
@@ -99,7 +99,7 @@ serve-one-spec =
     (tie.spec
     leave-requires
     touch-requires
-    post-requires
+    follow-requires
     note-sent-requires
     same-length
     same-length-2

@@ -129,18 +129,18 @@ followed : (c : tie.After-follow Inv-loop μ-loop)
     → let t = c .before .before .before .before .before .before .before .before .before .before .before in
     let l = t .before .before .before .before in
     let a = l .before .before .before .args in
-    Arrived (l .loop .w) (c .follow .last .0) (c .follow .last .1 .0) (a .k) (a .m) (a .q) (t .before .lowest .result) (c .follow .result)
+    Arrived (l .loop .w) (c .follow .last .0) (c .follow .last .1 .0) (a .k) (a .m) (a .q) (t .before .lowest .result) (c .follow .result .place)
 followed c =
     let u = c .before .before .before .before .before .before .before in
     let t = u .before .before .before .before in
     let i = t .before .before .before in
     let h = sending-arrives (i .before .loop .inv) (i .loop-test .taken) (t .before .lowest .ensures) (t .test .ensures) in
     arrived-followed _ (u .touch .last .0) _ _ _ _ _ (t .test .result) h (u .touch .ensures .0 .0) (u .touch .ensures .0 .1)
-    (c .follow .ensures .0 .0) (c .follow .ensures .0 .1) (c .follow .ensures .1 .0) (c .follow .ensures .1 .1)
+    (c .follow .ensures .0 .0) (c .follow .ensures .0 .1) (c .follow .ensures .1 .0) (c .follow .ensures .1 .1 .0)
 
 next-place-requires : tie.Need-next-place-requires Inv-loop μ-loop
 next-place-requires c κs =
-    let t = c .before .before .before .before .before .before .before .before .before .before .before .before .before .before .before .before in
+    let t = c .before .before .before .before .before .before .before .before .before .before .before .before .before .before .before .before .before in
     let i = t .before .before .before in
     let h = sending-arrives (i .before .loop .inv) (i .loop-test .taken) (t .before .lowest .ensures) (t .test .ensures) in
     (h .kind, omega (arith, h .message, h .bounds .counts), h .from)
@@ -150,20 +150,20 @@ so-far-requires-2 c κs = tt
 
 same-length-3 : tie.Need-same-length-3 Inv-loop μ-loop
 same-length-3 c =
-    let f = c .before .before .before .before .before .before .before in
+    let f = c .before .before .before .before .before .before .before .before in
     let l = f .before .before .before .before .before .before .before .before .before .before .before .before .before .before .before in
     followed f .long ∙ sym (l .before .before .before .pre .0 .going .sound .long)
 
 same-length-4 : tie.Need-same-length-4 Inv-loop μ-loop
 same-length-4 c =
-    let f = c .before .before .before .before .before .before .before in
+    let f = c .before .before .before .before .before .before .before .before in
     let l = f .before .before .before .before .before .before .before .before .before .before .before .before .before .before .before in
     followed f .index .long ∙ sym (l .before .before .before .pre .0 .index .long)
 
 returns-2 : tie.Need-returns-2 Inv-loop μ-loop
 returns-2 c =
     let n = c .before in
-    let f = n .before .before .before .before .before .before in
+    let f = n .before .before .before .before .before .before .before in
     let d = f .before .before .before in
     let t = d .before .before .before .before .before .before .before .before in
     let o = t .before in
@@ -175,14 +175,14 @@ returns-2 c =
 
 loop-less : tie.Need-loop-less Inv-loop μ-loop
 loop-less c =
-    let k = c .before .before .before .before .before .before .before .before .before .before .before .before .before .before .before in
+    let k = c .before .before .before .before .before .before .before .before .before .before .before .before .before .before .before .before in
     let o = k .before .before in
     let i = o .before .before in
     sending-less (i .before .loop .inv) (i .loop-test .taken) (o .lowest .ensures) (k .clear .ensures)
 
 loop-again : tie.Need-loop-again Inv-loop μ-loop
 loop-again c =
-    let f = c .before .before .before .before .before in
+    let f = c .before .before .before .before .before .before in
     let d = f .before .before .before in
     let k = d .before .before .before .before .before .before .before in
     let o = k .before .before in
