@@ -5,16 +5,16 @@ use mathlib.Core.Path.{_≡_, refl, sym, ap, ap₂, _∙_, subst}
 use mathlib.Core.Bool.{Bool, true, false, not, _&&_, _||_}
 use mathlib.Core.List.{List}
 use mathlib.Core.Logic.{_≢_, _⊎_, inl, inr}
-use Prim.Native.Nat.{ℕ, _+_, _-_, _*_, _/_, _^_, _≤_, _<_}
+use Prim.Native.Nat.{ℕ, _+_, _*_, _/_, _^_, _≤_, _<_}
 use native.Mathlib.Omega.{arith}
 use native.Mathlib.Decide.{ℕ-discrete}
 use lib.Dec.{ltb, eqb}
 use lib.ListN.{length, getD, set, length-set, replicate, length-replicate, getD-replicate}
 use lib.Seq.{getD-set-same, getD-set-other, set-getD}
-use borrow.Author.Tests.{lt-ltb, le-ltb, ltb-true, ltb-false, ne-eqb, eqb-true}
+use borrow.Author.Tests.{lt-ltb, le-ltb, ltb-true, ne-eqb, eqb-true}
 use Rattle.definitions.specs.General.{pick, bit, with, without}
-use Rattle.base.specs.Tests.{both, either, bool-cases, clash, eqb-refl, or-false, le-or-lt, pick-yes, pick-no}
-use Rattle.base.specs.Bits.{bit-with, bit-zero, with-hit, with-other, without-hit, without-old, without-other}
+use Rattle.base.specs.Tests.{both, either, clash, eqb-refl, or-false, le-or-lt, pick-yes, pick-no}
+use Rattle.base.specs.Bits.{bit-with, bit-zero, with-hit, without-hit, without-old, without-other}
 use Rattle.base.specs.Search.{first-law}
 use Rattle.sets.specs.Lowest.{lowest}
 

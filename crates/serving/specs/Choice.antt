@@ -1,7 +1,7 @@
 -- The letters of a sound state that can move, sorted (Queues), give the choice by turns: the first waiting process from the
 -- turn on, or else of all; its lowest message; the lowest place. Assumes nothing.
-use mathlib.Core.Path.{_≡_, refl, sym, ap, ap₂, _∙_, subst}
-use mathlib.Core.Bool.{Bool, true, false, _&&_}
+use mathlib.Core.Path.{_≡_, sym, ap, ap₂, _∙_, subst}
+use mathlib.Core.Bool.{Bool, true, false}
 use mathlib.Core.List.{List}
 use mathlib.Core.Logic.{_⊎_, inl, inr}
 use Prim.Native.Nat.{ℕ, _+_, _-_, _*_, _/_, _%_, _^_, _≤_, _<_}
@@ -10,21 +10,17 @@ use lib.Dec.{ltb, eqb}
 use lib.ListN.{getD}
 use lib.Pow.{shr-shr}
 use borrow.Author.Tests.{lt-ltb, le-ltb, ltb-true}
-use Rattle.definitions.specs.General.{pick, first-from, bit}
+use Rattle.definitions.specs.General.{first-from, bit}
 use Rattle.definitions.specs.World.{size, count, State}
-use Rattle.definitions.specs.Steps.{is-up, in-flight}
 use Rattle.definitions.specs.Settle.{Choice, letter, nothing, moves, origin-to, kind-to, message-to, letter-to, has-letter, served, fair}
 use Rattle.base.specs.Tests.{same, both, both-l, both-r, bool-cases, clash, le-or-lt, pick-yes, pick-no}
 use Rattle.base.specs.Search.{first-law}
 use Rattle.sets.specs.Lowest.{lowest}
-use Rattle.world.specs.SoundLaws.{Sound, size-high, count-high, letter-facts, origin-low}
+use Rattle.world.specs.SoundLaws.{Sound, size-high, count-high}
 use Rattle.world.specs.StepLaws.{hit, miss}
-use Rattle.letters.specs.Search.{waiting, waiting-bit, waiting-above}
-use Rattle.queues.specs.Queues.{Places, Queues, some-member, ahead-of, served-of}
-
--- The letter of message x at a place can move to r, in s.
-abbrev pub lettered : State → Places
-lettered s x j r = bit (waiting s x (j / 16) (j % 16)) r
+use Rattle.letters.specs.Search.{waiting, waiting-bit}
+use Rattle.queues.specs.Queues.{Queues, some-member, ahead-of, served-of}
+use Rattle.gathering.specs.Gathered.{lettered, letter-is}
 
 -- ---- searches
 -- where the first is
@@ -63,23 +59,7 @@ bit-shift x t j = ap (λ (n : ℕ). eqb (n % 2) 1) (shr-shr x t j)
 
 -- ---- in a sound state
 module _ (s : State) (h : Sound s) where
-  -- a letter that can move is one of its messages, between its processes
-  pub letter-is : (x j r : ℕ) → x < 64 → j < 48 → r < 16 → lettered s x j r ≡ true
-      → (x < s count) × (j % 16 < s size) × (r < s size) × (moves s x (j / 16) (j % 16) r ≡ true)
-  unfolding moves
-  letter-is x j r hx hj hr e = go (le-or-lt (s size) r)
-    where
-      go : (s size ≤ r) ⊎ (r < s size)
-          → (x < s count) × (j % 16 < s size) × (r < s size) × (moves s x (j / 16) (j % 16) r ≡ true)
-      go (inl l) = clash e (waiting-above s x (j / 16) (j % 16) r l)
-      go (inr l) =
-          let m = sym (waiting-bit s x (j / 16) (j % 16) r l) ∙ e in
-          let f =
-          letter-facts s h (j / 16) x (j % 16) r (omega arith) hx (omega arith) hr
-          (both-l (in-flight s (j / 16) x (j % 16) r) (is-up s r) m) in
-          (ltb-true x (s count) (f .of), origin-low s h (j / 16) x (j % 16) r f, l, m)
-
-  -- and one that moves is such a letter
+  -- a letter that moves has its place among those that can move
   place-of : (x k q r : ℕ) → q < 16 → r < s size → moves s x k q r ≡ true → lettered s x (k * 16 + q) r ≡ true
   place-of x k q r hq hr e =
       let ek : (k * 16 + q) / 16 ≡ k = omega arith in
@@ -113,7 +93,7 @@ module _ (s : State) (h : Sound s) where
       origin-is : origin-to s r x (place / 16) ≡ place % 16
       unfolding origin-to
       origin-is =
-          let f = letter-is x place r hx (place-low .0) hr (place-low .1) in
+          let f = letter-is s h x place r hx (place-low .0) hr (place-low .1) in
           first-is (s size) 0 (λ o. moves s x (place / 16) o r) (place % 16) (omega arith) (omega (arith, f .1)) (f .3)
           (λ o _ l. elim (bool-cases (moves s x (place / 16) o r)) [
             | inr z ↦ z
@@ -124,7 +104,7 @@ module _ (s : State) (h : Sound s) where
       kind-is : kind-to s r x ≡ place / 16
       unfolding kind-to origin-to
       kind-is =
-          let f = letter-is x place r hx (place-low .0) hr (place-low .1) in
+          let f = letter-is s h x place r hx (place-low .0) hr (place-low .1) in
           first-is 3 0 (λ k. ltb (origin-to s r x k) (s size)) (place / 16) (omega arith) (omega (arith, place-low .0))
           (finds (s size) (λ o. moves s x (place / 16) o r) (place % 16) (f .1) (f .3))
           (λ k _ l. elim (bool-cases (ltb (origin-to s r x k) (s size))) [
@@ -181,7 +161,7 @@ module _ (s : State) (h : Sound s) where
       letter-low =
           let w = waits-low in
           let z = place-low message r (w .1) (w .0) message-in in
-          let f = letter-is message lowest-place r (w .1) (z .0) (w .0) (z .1) in
+          let f = letter-is s h message lowest-place r (w .1) (z .0) (w .0) (z .1) in
           (f .0, z .0, f .2, z .1)
 
       message-is : message-to s r ≡ lowest (getD a (1024 + r) 0)

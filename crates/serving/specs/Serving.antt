@@ -7,7 +7,7 @@ use Prim.Native.Nat.{ℕ, _+_, _*_, _/_, _%_, _≤_, _<_}
 use native.Mathlib.Omega.{arith}
 use lib.ListN.{length, getD}
 use Rattle.definitions.specs.General.{bit, with, mask-of, every}
-use Rattle.definitions.specs.World.{Cell, size, count, held, State, encode, view}
+use Rattle.definitions.specs.World.{Cell, size, count, held, encode, view}
 use Rattle.definitions.specs.Machine.{marked, cascade, hold, arrival}
 use Rattle.definitions.specs.Steps.{is-up}
 use Rattle.definitions.specs.Settle.{letter, nothing, fair, by-turns}
@@ -24,8 +24,9 @@ use Rattle.arrivals.specs.Arrival.{Posts, marked-of, posts-marked, Arrives, Arr
 use Rattle.letters.specs.Places.{still-up}
 use Rattle.settling.specs.Settling.{Rested, rested-none, rested-known, arrived-sound, rested-on}
 use Rattle.queues.specs.Queues.{Queues, queues-same, parted, served-of}
-use Rattle.serving.specs.Choice.{lettered, letter-low, fair-found, fair-none}
-use Rattle.serving.specs.Sent.{all-told, posted-lettered, silent-lettered}
+use Rattle.gathering.specs.Gathered.{lettered, all-told}
+use Rattle.serving.specs.Choice.{letter-low, fair-found, fair-none}
+use Rattle.serving.specs.Sent.{posted-lettered, silent-lettered}
 
 -- what the arrival of the letter of m at a place at p leans on, and what it leaves
 pub record Serves (w x a : List ℕ) (live place m p : ℕ) (known : Bool) : Type 0 where

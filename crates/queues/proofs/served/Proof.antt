@@ -1,10 +1,8 @@
 -- `queues::served` meets its contract. Assumes nothing.
 use mathlib.Core.Path.{sym, ap, _∙_}
 use Prim.Native.Nat.{ℕ, _+_}
-use native.Mathlib.Omega.{arith}
 use lib.Dec.{ltb}
 use borrow.Author.Tests.{lt-ltb, le-ltb}
-use Rattle.definitions.specs.General.{pick}
 use Rattle.base.specs.Tests.{pick-yes, pick-no}
 use Rattle.sets.specs.Lowest.{lowest}
 use borrow.Author.Needs.{needs}

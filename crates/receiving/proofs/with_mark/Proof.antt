@@ -1,9 +1,6 @@
 -- `receiving::with_mark` meets its contract. Assumes nothing.
-use mathlib.Core.Path.{sym, ap, _∙_}
-use mathlib.Core.Bool.{Bool}
 use borrow.Author.Needs.{needs}
 use borrow.Author.Tests.{eq-eqb, ne-eqb}
-use Rattle.definitions.specs.General.{pick, with}
 use Rattle.receiving.proofs.with_mark.Statement.{statement}
 use Rattle.receiving.proofs.with_mark.Tie as tie
 

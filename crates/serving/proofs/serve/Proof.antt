@@ -7,7 +7,6 @@ use native.Mathlib.Nat.{sub-zero}
 use native.Mathlib.Omega.{arith}
 use lib.ListN.{length, getD}
 use Rattle.definitions.specs.General.{gives}
-use Rattle.definitions.specs.World.{view}
 use Rattle.definitions.specs.Settle.{Settled, by-turns}
 use Rattle.definitions.specs.Words.{settle-words}
 use Rattle.sets.specs.Lowest.{lowest}

@@ -1,11 +1,10 @@
 -- `serving::serve_one` meets its contract. Assumes nothing.
-use mathlib.Core.Path.{_≡_, refl, sym, ap, _∙_}
-use Prim.Native.Nat.{ℕ, _/_, _%_, _<_}
+use mathlib.Core.Path.{refl, sym, _∙_}
 use native.Mathlib.Omega.{arith}
 use Rattle.definitions.specs.World.{view}
 use Rattle.arrivals.specs.Arrival.{follows}
 use Rattle.queues.specs.Queues.{parted}
-use Rattle.serving.specs.Choice.{lettered}
+use Rattle.gathering.specs.Gathered.{lettered}
 use Rattle.serving.specs.Serving.{followed-ups, served-marked, served-posted}
 use borrow.Author.Needs.{needs}
 use Rattle.serving.proofs.serve_one.Statement.{statement}

@@ -1,4 +1,4 @@
--- `serving::note_sent` meets its contract. The loop's invariant: the letters noted so far are those of some test, which with
+-- `gathering::note_sent` meets its contract. The loop's invariant: the letters noted so far are those of some test, which with
 -- the messages left is that of the contract. Assumes nothing.
 use mathlib.Core.Path.{_≡_, refl, sym, ap, _∙_}
 use mathlib.Core.Bool.{true}
@@ -10,10 +10,10 @@ use Rattle.definitions.specs.World.{view}
 use Rattle.sets.specs.Lowest.{lowest-low, lowest-in}
 use Rattle.sets.specs.Sweep.{sweep-less}
 use Rattle.queues.specs.Queues.{Places, Queues, queues-same}
-use Rattle.serving.specs.Sent.{told, all-told, told-none, told-one}
+use Rattle.gathering.specs.Gathered.{told, all-told, told-none, told-one}
 use borrow.Author.Needs.{needs}
-use Rattle.serving.proofs.note_sent.Statement.{statement}
-use Rattle.serving.proofs.note_sent.Tie as tie
+use Rattle.gathering.proofs.note_sent.Statement.{statement}
+use Rattle.gathering.proofs.note_sent.Tie as tie
 
 abbrev Inv-loop : tie.InvT-loop
 Inv-loop w a₀ up p sent left₀ a left =

@@ -1,4 +1,4 @@
--- `serving::gather` meets its contract. The loop's invariant: the letters of the messages passed have joined. Assumes
+-- `gathering::gather` meets its contract. The loop's invariant: the letters of the messages passed have joined. Assumes
 -- nothing.
 use mathlib.Core.Path.{_≡_, sym, _∙_, subst}
 use Prim.Native.Nat.{ℕ, _-_, _≤_}
@@ -6,10 +6,10 @@ use native.Mathlib.Omega.{arith}
 use Rattle.definitions.specs.World.{count, view}
 use Rattle.world.specs.SoundLaws.{count-high}
 use Rattle.queues.specs.Queues.{Queues, queues-same}
-use Rattle.serving.specs.Sent.{below, below-none, below-more, below-all}
+use Rattle.gathering.specs.Gathered.{below, below-none, below-more, below-all}
 use borrow.Author.Needs.{needs}
-use Rattle.serving.proofs.gather.Statement.{statement}
-use Rattle.serving.proofs.gather.Tie as tie
+use Rattle.gathering.proofs.gather.Statement.{statement}
+use Rattle.gathering.proofs.gather.Tie as tie
 
 abbrev Inv-loop : tie.InvT-loop
 Inv-loop w a₀ up n m₀ a m = (m ≤ n) × Queues (below (view w) m) a

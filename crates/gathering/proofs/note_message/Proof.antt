@@ -1,13 +1,13 @@
--- `serving::note_message` meets its contract. Assumes nothing.
+-- `gathering::note_message` meets its contract. Assumes nothing.
 use mathlib.Core.Path.{sym, _∙_}
 use Prim.Native.Nat.{_+_}
 use native.Mathlib.Omega.{arith}
 use Rattle.definitions.specs.World.{view}
 use Rattle.queues.specs.Queues.{queues-same, noted}
-use Rattle.serving.specs.Sent.{told-here}
+use Rattle.gathering.specs.Gathered.{told-here}
 use borrow.Author.Needs.{needs}
-use Rattle.serving.proofs.note_message.Statement.{statement}
-use Rattle.serving.proofs.note_message.Tie as tie
+use Rattle.gathering.proofs.note_message.Statement.{statement}
+use Rattle.gathering.proofs.note_message.Tie as tie
 
 receivers-requires : tie.Need-receivers-requires
 receivers-requires c κs =

@@ -1,15 +1,15 @@
--- `serving::gather_message` meets its contract. The loop's invariant: the letters below the place have joined. Assumes
+-- `gathering::gather_message` meets its contract. The loop's invariant: the letters below the place have joined. Assumes
 -- nothing.
 use mathlib.Core.Path.{_≡_, sym, _∙_, subst}
 use Prim.Native.Nat.{ℕ, _-_, _≤_}
 use native.Mathlib.Omega.{arith}
 use lib.ListN.{length}
 use Rattle.definitions.specs.World.{view}
-use Rattle.queues.specs.Queues.{Places, Queues, queues-same, noted}
-use Rattle.serving.specs.Sent.{gathered, gathered-none, gathered-more}
+use Rattle.queues.specs.Queues.{Places, Queues, queues-same}
+use Rattle.gathering.specs.Gathered.{gathered, gathered-none, gathered-more}
 use borrow.Author.Needs.{needs}
-use Rattle.serving.proofs.gather_message.Statement.{statement}
-use Rattle.serving.proofs.gather_message.Tie as tie
+use Rattle.gathering.proofs.gather_message.Statement.{statement}
+use Rattle.gathering.proofs.gather_message.Tie as tie
 
 abbrev Inv-loop : tie.InvT-loop
 Inv-loop w a₀ up m place₀ a place =
