@@ -13,7 +13,7 @@ use Rattle.definitions.specs.General.{pick, needs, first-from, some, bit, tabul
 use Rattle.definitions.specs.World.{Cell, size, count, rule, group, trust, counter, sequence, next, delivered, up, fifo-length, causal-length, held, marks, fifo, causal, sender, mask, stamp, number, flight, order, unused, State, encode, view, addr, has-group, is-process}
 use Rattle.definitions.specs.Setup.{setup-refusal, made}
 use Rattle.definitions.specs.Steps.{Step, multicasts, arrives, loses, trusts, crashes, malformed, read, good-mask, is-up, in-flight, refusal, accepted, step, after}
-use Rattle.definitions.specs.Settle.{Choice, letter, nothing, moves, receiver, origin, kind, movable, letter-of, lowest, origin-to, kind-to, message-to, letter-to, has-letter, served, fair, Manner, lowest-first, by-turns, choice}
+use Rattle.definitions.specs.Settle.{Choice, letter, nothing, moves, receiver, origin, kind, movable, letter-of, some-letter, lowest, any, has-letter, served, fair, Manner, lowest-first, by-turns, choice}
 use Rattle.definitions.specs.Words.{needs-world, making-refusal, made-words, step-refusal, stepped-words, log-length, log-start, log-refusal, log-words}
 use Rattle.base.specs.Tests.{both-l, both-r}
 use Rattle.base.specs.Search.{first-law, first-cong, some-cong}
@@ -23,7 +23,6 @@ use Rattle.world.specs.Layout.{Within, get-encode, encode-ext, part-encode}
 use Rattle.world.specs.SoundLaws.{Sound, size-high, count-high, group-high, sender-high, fifo-length-high, causal-length-high, fifo-high}
 use Rattle.world.specs.Calls.{refused-same}
 use Rattle.world.specs.StepLaws.{accepted-multicast, accepted-arrival, accepted-loss, accepted-trust}
-use Rattle.world.specs.TurnLaws.{Turn, ahead, around, nobody, turn-law}
 use Rattle.keeps.specs.Keeps.{sound-words-taken, encoded}
 use Rattle.effects.specs.Logs.{log-item, encoded-length}
 use Rattle.carried.specs.Same.{Fits, Agree, same, process-low, message-low, leave-agree, arrival-agree, trust-agree, crash-agree, multicast-agree}
@@ -137,119 +136,89 @@ module _ {s t : State} (a : Agree s t) where
       first-cong (s size) 0 f g (λ i _ u. e i (omega arith))
       ∙ ap (λ (n : ℕ). first-from n 0 g) (same a size tt)
 
-  -- the lowest receiver
-  receiver-agree : (m k q : ℕ) → m < s count → k < 3 → q < s size → receiver s m k q ≡ receiver t m k q
-  unfolding receiver
-  receiver-agree m k q hm hk hq =
-      first-agree (moves s m k q) (moves t m k q) (λ p l. moves-agree m k q p hm hk hq l)
+  module _ (to : ℕ → Bool) where
+    -- the lowest receiver
+    receiver-agree : (m k q : ℕ) → m < s count → k < 3 → q < s size → receiver to s m k q ≡ receiver to t m k q
+    unfolding receiver
+    receiver-agree m k q hm hk hq =
+        first-agree (λ p. to p && moves s m k q p) (λ p. to p && moves t m k q p)
+        (λ p l. ap (λ (b : Bool). to p && b) (moves-agree m k q p hm hk hq l))
 
-  -- the lowest origin
-  origin-agree : (m k : ℕ) → m < s count → k < 3 → origin s m k ≡ origin t m k
-  unfolding origin
-  origin-agree m k hm hk =
-      first-agree (λ q. ltb (receiver s m k q) (s size)) (λ q. ltb (receiver t m k q) (t size))
-      (λ q l. ap₂ ltb (receiver-agree m k q hm hk l) (same a size tt))
-
-  -- the lowest kind
-  kind-agree : (m : ℕ) → m < s count → kind s m ≡ kind t m
-  unfolding kind
-  kind-agree m hm =
-      first-cong 3 0 (λ k. ltb (origin s m k) (s size)) (λ k. ltb (origin t m k) (t size))
-      (λ k _ u. ap₂ ltb (origin-agree m k hm (omega arith)) (same a size tt))
-
-  -- the lowest letter of a message
-  letter-agree : (m : ℕ) → m < s count → movable s m ≡ true → letter-of s m ≡ letter-of t m
-  unfolding letter-of movable kind
-  letter-agree m hm e =
-      let k = kind s m in
-      let hk : k < 3 = ltb-true k 3 e in
-      let hq =
-      ltb-true (origin s m k) (s size)
-      (first-law 3 0 (λ i. ltb (origin s m i) (s size)) .hit (omega arith)) in
-      let eo = origin-agree m k hm hk in
-      ap₂ (λ (q r : ℕ). letter k m q r) eo
-      (receiver-agree m k (origin s m k) hm hk hq ∙ ap (receiver t m k) eo)
-      ∙ ap (λ (j : ℕ). letter j m (origin t m j) (receiver t m j (origin t m j))) (kind-agree m hm)
-
-  -- the lowest letter
-  lowest-agree : lowest s ≡ lowest t
-  unfolding lowest movable
-  lowest-agree =
-      go (ltb low (s count)) refl
-      ∙ ap₂ (λ (x : ℕ) (b : Bool). elim b as (λ _. Choice) [
-        | true ↦ letter-of t x
-        | false ↦ nothing
-      ]) same-low
-      (ap₂ ltb same-low (same a count tt))
-    where
-      low : ℕ
-      low = first-from (s count) 0 (movable s)
-
-      same-low : first-from (s count) 0 (movable s) ≡ first-from (t count) 0 (movable t)
-      same-low =
-          first-cong (s count) 0 (movable s) (movable t)
-          (λ m _ u. ap (λ (k : ℕ). ltb k 3) (kind-agree m (omega arith)))
-          ∙ ap (λ (n : ℕ). first-from n 0 (movable t)) (same a count tt)
-
-      go : (b : Bool) → ltb (first-from (s count) 0 (movable s)) (s count) ≡ b
-          → _≡_ {A = Choice} (elim b [
-            | true ↦ letter-of s (first-from (s count) 0 (movable s))
-            | false ↦ nothing
-          ])
-          (elim b [ true ↦ letter-of t (first-from (s count) 0 (movable s)) | false ↦ nothing ])
-      go true e =
-          let l = ltb-true low (s count) e in
-          letter-agree low l (first-law (s count) 0 (movable s) .hit (omega arith))
-      go false e = refl
-
-  -- ---- by turns
-  module _ (p : ℕ) (hp : p < s size) where
-    -- the lowest sender of a letter to p
-    origin-to-agree : (m k : ℕ) → m < s count → k < 3 → origin-to s p m k ≡ origin-to t p m k
-    unfolding origin-to
-    origin-to-agree m k hm hk =
-        first-agree (λ q. moves s m k q p) (λ q. moves t m k q p) (λ q l. moves-agree m k q p hm hk l hp)
+    -- the lowest origin
+    origin-agree : (m k : ℕ) → m < s count → k < 3 → origin to s m k ≡ origin to t m k
+    unfolding origin
+    origin-agree m k hm hk =
+        first-agree (λ q. ltb (receiver to s m k q) (s size)) (λ q. ltb (receiver to t m k q) (t size))
+        (λ q l. ap₂ ltb (receiver-agree m k q hm hk l) (same a size tt))
 
     -- the lowest kind
-    kind-to-agree : (m : ℕ) → m < s count → kind-to s p m ≡ kind-to t p m
-    unfolding kind-to
-    kind-to-agree m hm =
-        first-cong 3 0 (λ k. ltb (origin-to s p m k) (s size)) (λ k. ltb (origin-to t p m k) (t size))
-        (λ k _ u. ap₂ ltb (origin-to-agree m k hm (omega arith)) (same a size tt))
+    kind-agree : (m : ℕ) → m < s count → kind to s m ≡ kind to t m
+    unfolding kind
+    kind-agree m hm =
+        first-cong 3 0 (λ k. ltb (origin to s m k) (s size)) (λ k. ltb (origin to t m k) (t size))
+        (λ k _ u. ap₂ ltb (origin-agree m k hm (omega arith)) (same a size tt))
+
+    -- the lowest letter of a message
+    letter-agree : (m : ℕ) → m < s count → movable to s m ≡ true → letter-of to s m ≡ letter-of to t m
+    unfolding letter-of movable kind
+    letter-agree m hm e =
+        let k = kind to s m in
+        let hk : k < 3 = ltb-true k 3 e in
+        let hq =
+        ltb-true (origin to s m k) (s size)
+        (first-law 3 0 (λ i. ltb (origin to s m i) (s size)) .hit (omega arith)) in
+        let eo = origin-agree m k hm hk in
+        ap₂ (λ (q r : ℕ). letter k m q r) eo
+        (receiver-agree m k (origin to s m k) hm hk hq ∙ ap (receiver to t m k) eo)
+        ∙ ap (λ (j : ℕ). letter j m (origin to t m j) (receiver to t m j (origin to t m j))) (kind-agree m hm)
 
     -- the lowest message
-    message-to-agree : message-to s p ≡ message-to t p
-    unfolding message-to
-    message-to-agree =
-        first-cong (s count) 0 (λ m. ltb (kind-to s p m) 3) (λ m. ltb (kind-to t p m) 3)
-        (λ m _ u. ap (λ (k : ℕ). ltb k 3) (kind-to-agree m (omega arith)))
-        ∙ ap (λ (n : ℕ). first-from n 0 (λ m. ltb (kind-to t p m) 3)) (same a count tt)
+    message-agree : first-from (s count) 0 (movable to s) ≡ first-from (t count) 0 (movable to t)
+    unfolding movable
+    message-agree =
+        first-cong (s count) 0 (movable to s) (movable to t)
+        (λ m _ u. ap (λ (k : ℕ). ltb k 3) (kind-agree m (omega arith)))
+        ∙ ap (λ (n : ℕ). first-from n 0 (movable to t)) (same a count tt)
 
-    -- whether p has a letter
-    has-letter-agree : has-letter s p ≡ has-letter t p
-    unfolding has-letter
-    has-letter-agree = ap₂ ltb message-to-agree (same a count tt)
+    -- whether there is one
+    some-agree : some-letter to s ≡ some-letter to t
+    some-agree = ap₂ ltb message-agree (same a count tt)
 
-    -- its lowest
-    letter-to-agree : has-letter s p ≡ true → letter-to s p ≡ letter-to t p
-    unfolding letter-to has-letter message-to
-    letter-to-agree e =
-        let m : ℕ = message-to s p in
-        let hm = ltb-true m (s count) e in
-        let k : ℕ = kind-to s p m in
-        let hk = ltb-true k 3 (first-law (s count) 0 (λ m. ltb (kind-to s p m) 3) .hit (omega arith)) in
-        ap (λ (q : ℕ). letter k m q p) (origin-to-agree m k hm hk)
-        ∙ ap (λ (j : ℕ). letter j m (origin-to t p m j) p) (kind-to-agree m hm)
-        ∙ ap (λ (x : ℕ). letter (kind-to t p x) x (origin-to t p x (kind-to t p x)) p) message-to-agree
+    -- the lowest letter
+    lowest-agree : lowest to s ≡ lowest to t
+    unfolding lowest
+    lowest-agree =
+        go (some-letter to s) refl
+        ∙ ap₂ (λ (x : ℕ) (b : Bool). elim b as (λ _. Choice) [
+          | true ↦ letter-of to t x
+          | false ↦ nothing
+        ]) message-agree some-agree
+      where
+        low : ℕ
+        low = first-from (s count) 0 (movable to s)
+
+        go : (b : Bool) → some-letter to s ≡ b
+            → _≡_ {A = Choice} (elim b [ true ↦ letter-of to s low | false ↦ nothing ])
+            (elim b [ true ↦ letter-of to t low | false ↦ nothing ])
+        go true e =
+            let l = ltb-true low (s count) e in
+            letter-agree low l (first-law (s count) 0 (movable to s) .hit (omega arith))
+        go false e = refl
+
+  -- ---- by turns
+  -- whether p has a letter
+  has-letter-agree : (p : ℕ) → has-letter s p ≡ has-letter t p
+  unfolding has-letter
+  has-letter-agree p = some-agree (eqb p)
 
   -- whose turn it is
   turn-agree : (w : ℕ) → served s w ≡ served t w
   unfolding served
   turn-agree w =
       ap₂ (λ (x y : ℕ). pick (ltb x (s size)) x y)
-      (first-cong (s size - w) w (has-letter s) (has-letter t) (λ p l u. has-letter-agree p (omega arith))
+      (first-cong (s size - w) w (has-letter s) (has-letter t) (λ p l u. has-letter-agree p)
       ∙ ap (λ (n : ℕ). first-from (n - w) w (has-letter t)) (same a size tt))
-      (first-agree (has-letter s) (has-letter t) has-letter-agree)
+      (first-agree (has-letter s) (has-letter t) (λ p l. has-letter-agree p))
       ∙ ap (λ (n : ℕ). pick (ltb (first-from (t size - w) w (has-letter t)) n)
       (first-from (t size - w) w (has-letter t)) (first-from (t size) 0 (has-letter t))) (same a size tt)
 
@@ -257,23 +226,11 @@ module _ {s t : State} (a : Agree s t) where
   fair-agree : (w : ℕ) → fair w s ≡ fair w t
   unfolding fair
   fair-agree w =
-      go (ltb (served s w) (s size)) refl (turn-law s w)
-      ∙ ap₂ (λ (x : ℕ) (b : Bool). elim b as (λ _. Choice) [
-        | true ↦ letter-to t x
-        | false ↦ nothing
-      ]) (turn-agree w) (ap₂ ltb (turn-agree w) (same a size tt))
-    where
-      go : (b : Bool) → ltb (served s w) (s size) ≡ b → Turn s w (served s w)
-          → _≡_ {A = Choice} (elim b [ true ↦ letter-to s (served s w) | false ↦ nothing ])
-          (elim b [ true ↦ letter-to t (served s w) | false ↦ nothing ])
-      go true e (ahead _ l z _) = letter-to-agree (served s w) l z
-      go true e (around l z _ _) = letter-to-agree (served s w) l z
-      go true e (nobody l _) = let h = ltb-true (served s w) (s size) e in absurd (omega arith)
-      go false e _ = refl
+      lowest-agree (eqb (served s w)) ∙ ap (λ (p : ℕ). lowest (eqb p) t) (turn-agree w)
 
   -- either choice
   pub choice-agree : (o : Manner) (w : ℕ) → choice o w s ≡ choice o w t
-  choice-agree lowest-first w = lowest-agree
+  choice-agree lowest-first w = lowest-agree any
   choice-agree by-turns w = fair-agree w
 
 -- ---- a sound state and its words

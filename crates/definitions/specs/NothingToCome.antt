@@ -1,6 +1,6 @@
--- Nothing to come: what card 4 of document 02 claims of settle beside demand 3 (Demand), of both settles. What its answer says of the
--- letters that are left, for all lent words; and the limit of its arrivals, and lost letters, after any list of items. It
--- rests on Words and Demand. Assumes nothing.
+-- Nothing to come: what card 4 of document 02 claims of settle beside demand 3 (Demand), of both settles. What its answer
+-- says of the letters that are left, for all lent words; and the limit of its arrivals, and lost letters, after any list of
+-- items. It rests on Words and Demand. Assumes nothing.
 use mathlib.Core.Path.{_≡_}
 use mathlib.Core.Bool.{true, false}
 use mathlib.Core.List.{List, _∷_, _++_}

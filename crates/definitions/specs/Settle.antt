@@ -4,7 +4,7 @@
 -- card 7 serves the processes in turn. It rests on Steps. Assumes nothing.
 use mathlib.Core.Bool.{Bool, true, false, _&&_}
 use Prim.Native.Nat.{ℕ, zero, suc, _+_, _-_}
-use lib.Dec.{ltb}
+use lib.Dec.{ltb, eqb}
 use Rattle.definitions.specs.General.{pick, first-from}
 use Rattle.definitions.specs.World.{size, count, State}
 use Rattle.definitions.specs.Steps.{is-up, in-flight}
@@ -19,54 +19,45 @@ pub data Choice : Type 0 where
 unfoldable pub moves : State → ℕ → ℕ → ℕ → ℕ → Bool
 moves s m k q p = in-flight s k m q p && is-up s p
 
--- "The search over message, letter kind, sender and receiver ends at the first letter found": the lowest
--- receiver, the lowest sender that has one, the lowest kind that has such a sender, whether there is one.
-unfoldable pub receiver : State → ℕ → ℕ → ℕ → ℕ
-receiver s m k q = first-from (s size) 0 (moves s m k q)
+-- ---- the lowest letter: of those that can move to a receiver that passes
+module _ (to : ℕ → Bool) (s : State) where
+  -- "The search over message, letter kind, sender and receiver ends at the first letter found": the lowest
+  -- receiver, the lowest sender that has one, the lowest kind that has such a sender, whether there is one.
+  unfoldable pub receiver : ℕ → ℕ → ℕ → ℕ
+  receiver m k q = first-from (s size) 0 (λ p. to p && moves s m k q p)
 
-unfoldable pub origin : State → ℕ → ℕ → ℕ
-origin s m k = first-from (s size) 0 (λ q. ltb (receiver s m k q) (s size))
+  unfoldable pub origin : ℕ → ℕ → ℕ
+  origin m k = first-from (s size) 0 (λ q. ltb (receiver m k q) (s size))
 
-unfoldable pub kind : State → ℕ → ℕ
-kind s m = first-from 3 0 (λ k. ltb (origin s m k) (s size))
+  unfoldable pub kind : ℕ → ℕ
+  kind m = first-from 3 0 (λ k. ltb (origin m k) (s size))
 
-unfoldable pub movable : State → ℕ → Bool
-movable s m = ltb (kind s m) 3
+  unfoldable pub movable : ℕ → Bool
+  movable m = ltb (kind m) 3
 
--- The lowest letter of m that can move, by kind, from, to.
-unfoldable pub letter-of : State → ℕ → Choice
-letter-of s m =
-    let k = kind s m in
-    let q = origin s m k in
-    letter k m q (receiver s m k q)
+  -- The lowest letter of m that can move, by kind, from, to.
+  unfoldable pub letter-of : ℕ → Choice
+  letter-of m =
+      let k = kind m in
+      let q = origin m k in
+      letter k m q (receiver m k q)
 
--- "the lowest letter" of these, "by message, kind, from, to"
-unfoldable pub lowest : State → Choice
-lowest s =
-    let m = first-from (s count) 0 (movable s) in
-    elim (ltb m (s count)) [ true ↦ letter-of s m | false ↦ nothing ]
+  -- Whether there is one of any message.
+  abbrev pub some-letter : Bool
+  some-letter = ltb (first-from (s count) 0 movable) (s count)
+
+  -- "the lowest letter" of these, "by message, kind, from, to"
+  unfoldable pub lowest : Choice
+  lowest = elim some-letter [ true ↦ letter-of (first-from (s count) 0 movable) | false ↦ nothing ]
+
+-- Every receiver passes.
+abbrev pub any : ℕ → Bool
+any p = true
 
 -- ---- the choice by turns: document 02, card 7
--- "it takes its lowest": of the letters to p, by message, kind, from. The lowest sender that has one, the lowest
--- kind that has such a sender, the lowest message that has such a kind.
-unfoldable pub origin-to : State → ℕ → ℕ → ℕ → ℕ
-origin-to s p m k = first-from (s size) 0 (λ q. moves s m k q p)
-
-unfoldable pub kind-to : State → ℕ → ℕ → ℕ
-kind-to s p m = first-from 3 0 (λ k. ltb (origin-to s p m k) (s size))
-
-unfoldable pub message-to : State → ℕ → ℕ
-message-to s p = first-from (s count) 0 (λ m. ltb (kind-to s p m) 3)
-
-unfoldable pub letter-to : State → ℕ → Choice
-letter-to s p =
-    let m = message-to s p in
-    let k = kind-to s p m in
-    letter k m (origin-to s p m k) p
-
 -- p is an "up process .. that has a letter in flight to it"
 unfoldable pub has-letter : State → ℕ → Bool
-has-letter s p = ltb (message-to s p) (s count)
+has-letter s p = some-letter (eqb p) s
 
 -- "the first .. in cyclic number order" from t on: of those from t to the last, or else of all.
 unfoldable pub served : State → ℕ → ℕ
@@ -74,10 +65,9 @@ served s t =
     let p = first-from (s size - t) t (has-letter s) in
     pick (ltb p (s size)) p (first-from (s size) 0 (has-letter s))
 
+-- "it takes its lowest": of the letters to that process alone.
 unfoldable pub fair : ℕ → State → Choice
-fair t s =
-    let p = served s t in
-    elim (ltb p (s size)) [ true ↦ letter-to s p | false ↦ nothing ]
+fair t s = lowest (eqb (served s t)) s
 
 -- ---- the two settles: document 01's, and the "second settle" that "serves processes in turn"
 pub data Manner : Type 0 where
@@ -85,7 +75,7 @@ pub data Manner : Type 0 where
 
 -- The choice of each, where it is the turn of t.
 abbrev pub choice : Manner → ℕ → State → Choice
-choice lowest-first t s = lowest s
+choice lowest-first t s = lowest any s
 choice by-turns t s = fair t s
 
 -- ---- "It returns the number of arrivals made and done, or stopped."

@@ -12,7 +12,7 @@ use Rattle.definitions.specs.World.{fifo-length, causal-length, fifo, causal, S
 use Rattle.definitions.specs.Setup.{fresh, setup-bits, setup-group, good-setup, setup-refusal, made}
 use Rattle.definitions.specs.Machine.{with-tables, ready, lowest-short, lowest-awaited, short-of, awaited, deliverable, deliverable-at, merge, causal-one, causal-all, appended, raised-next, due, send-ok, send-oks, fifo-one, cascade, raised, stamped, numbered, posted, multicast, leave, mark, hold, arrival, trust-set, crash}
 use Rattle.definitions.specs.Steps.{read, good-mask, is-up, refusal, step, after}
-use Rattle.definitions.specs.Settle.{moves, receiver, origin, kind, movable, letter-of, lowest, origin-to, kind-to, message-to, letter-to, has-letter, served, fair, Manner, lowest-first, by-turns, Ending, done, stopped, settle-from}
+use Rattle.definitions.specs.Settle.{moves, receiver, origin, kind, movable, letter-of, lowest, has-letter, served, fair, Manner, lowest-first, by-turns, Ending, done, stopped, settle-from}
 use Rattle.definitions.specs.Checksum.{ones-sum, checksum}
 use Rattle.definitions.specs.Block.{body, block, check-of}
 use Rattle.world.specs.SettleLaws.{settle}
@@ -325,6 +325,6 @@ unfolding ℕ-discrete lines-pass row-passes all-pass every some first-from abse
     appended raised-next due send-ok send-oks fifo-one cascade raised stamped numbered posted
     block body filled checksum ones-sum multicast leave mark hold arrival trust-set crash read has-group
     good-mask refusal step after
-    moves receiver origin kind movable letter-of lowest origin-to kind-to message-to letter-to has-letter served fair
+    moves receiver origin kind movable letter-of lowest has-letter served fair
     settle-from settle
 known-runs = refl

@@ -11,7 +11,7 @@ use Rattle.definitions.specs.General.{first-from, bit, mask-of}
 use Rattle.definitions.specs.World.{Cell, size, count, up, flight, State}
 use Rattle.definitions.specs.Machine.{arrival}
 use Rattle.definitions.specs.Steps.{is-up}
-use Rattle.definitions.specs.Settle.{Choice, letter, nothing, moves, receiver, origin, kind, movable, letter-of, lowest}
+use Rattle.definitions.specs.Settle.{Choice, letter, nothing, moves, receiver, origin, kind, movable, letter-of, lowest, any}
 use Rattle.base.specs.Search.{first-law, first-skip, first-end}
 use Rattle.base.specs.Bits.{mask-of-cong}
 use Rattle.world.specs.Layout.{Within}
@@ -50,43 +50,43 @@ none-first f n none =
 -- ---- what a place passed tells of the search
 module _ (s : State) where
   unmoved-origin : (m k q : ℕ) → ((p : ℕ) → p < s size → moves s m k q p ≡ false)
-      → ltb (receiver s m k q) (s size) ≡ false
+      → ltb (receiver any s m k q) (s size) ≡ false
   unfolding receiver
   unmoved-origin m k q none = none-first (moves s m k q) (s size) none
 
   unmoved-kind : (m k : ℕ) → ((q p : ℕ) → q < s size → p < s size → moves s m k q p ≡ false)
-      → ltb (origin s m k) (s size) ≡ false
+      → ltb (origin any s m k) (s size) ≡ false
   unfolding origin
   unmoved-kind m k none =
-      none-first (λ q. ltb (receiver s m k q) (s size)) (s size)
+      none-first (λ q. ltb (receiver any s m k q) (s size)) (s size)
       (λ q l. unmoved-origin m k q (λ p h. none q p l h))
 
   unmoved-message : (m : ℕ) → ((k q p : ℕ) → k < 3 → q < s size → p < s size → moves s m k q p ≡ false)
-      → movable s m ≡ false
+      → movable any s m ≡ false
   unfolding movable kind
   unmoved-message m none =
-      none-first (λ k. ltb (origin s m k) (s size)) 3 (λ k l. unmoved-kind m k (λ q p. none k q p l))
+      none-first (λ k. ltb (origin any s m k) (s size)) 3 (λ k l. unmoved-kind m k (λ q p. none k q p l))
 
   module _ (at : Place) (h : Passed s at) where
-    pub from-message : first-from (s count) 0 (movable s) ≡ first-from (s count - at .message) (at .message) (movable s)
+    pub from-message : first-from (s count) 0 (movable any s) ≡ first-from (s count - at .message) (at .message) (movable any s)
     from-message =
-        first-later (movable s) (s count) (at .message) (h .messages)
+        first-later (movable any s) (s count) (at .message) (h .messages)
         (λ m l. unmoved-message m (λ k q p. h .none m k q p (inl l)))
 
-    pub from-kind : kind s (at .message)
-        ≡ first-from (3 - at .kind) (at .kind) (λ k. ltb (origin s (at .message) k) (s size))
+    pub from-kind : kind any s (at .message)
+        ≡ first-from (3 - at .kind) (at .kind) (λ k. ltb (origin any s (at .message) k) (s size))
     unfolding kind
     from-kind =
         let l = h .kinds in
-        first-later (λ k. ltb (origin s (at .message) k) (s size)) 3 (at .kind) (omega arith)
+        first-later (λ k. ltb (origin any s (at .message) k) (s size)) 3 (at .kind) (omega arith)
         (λ k l. unmoved-kind (at .message) k
         (λ q p. h .none (at .message) k q p (inr (refl, inl l)) (omega (arith, h .kinds))))
 
-    pub from-origin : origin s (at .message) (at .kind)
-        ≡ first-from (s size - at .origin) (at .origin) (λ q. ltb (receiver s (at .message) (at .kind) q) (s size))
+    pub from-origin : origin any s (at .message) (at .kind)
+        ≡ first-from (s size - at .origin) (at .origin) (λ q. ltb (receiver any s (at .message) (at .kind) q) (s size))
     unfolding origin
     from-origin =
-        first-later (λ q. ltb (receiver s (at .message) (at .kind) q) (s size)) (s size) (at .origin) (h .origins)
+        first-later (λ q. ltb (receiver any s (at .message) (at .kind) q) (s size)) (s size) (at .origin) (h .origins)
         (λ q l. unmoved-origin (at .message) (at .kind) q
         (λ p. h .none (at .message) (at .kind) q p (inr (refl, inr (refl, l))) (h .kinds) (omega (arith, h .origins))))
 
@@ -112,19 +112,19 @@ earlier : (n : ℕ) (f : ℕ → Bool) (x : ℕ) → first-from n 0 f ≡ x → 
 earlier n f x e i h = first-law n 0 f .miss i (omega arith) (omega (arith, e))
 
 module _ (s : State) where
-  no-receiver : (m k q : ℕ) → ltb (receiver s m k q) (s size) ≡ false → (p : ℕ) → p < s size
+  no-receiver : (m k q : ℕ) → ltb (receiver any s m k q) (s size) ≡ false → (p : ℕ) → p < s size
       → moves s m k q p ≡ false
   unfolding receiver
   no-receiver m k q e = miss (s size) (moves s m k q) e
 
-  no-origin : (m k : ℕ) → ltb (origin s m k) (s size) ≡ false → (q p : ℕ) → q < s size → p < s size
+  no-origin : (m k : ℕ) → ltb (origin any s m k) (s size) ≡ false → (q p : ℕ) → q < s size → p < s size
       → moves s m k q p ≡ false
   unfolding origin
-  no-origin m k e q p hq = no-receiver m k q (miss (s size) (λ q. ltb (receiver s m k q) (s size)) e q hq) p
+  no-origin m k e q p hq = no-receiver m k q (miss (s size) (λ q. ltb (receiver any s m k q) (s size)) e q hq) p
 
-  no-kind : (m : ℕ) → movable s m ≡ false → (k q p : ℕ) → k < 3 → q < s size → p < s size → moves s m k q p ≡ false
+  no-kind : (m : ℕ) → movable any s m ≡ false → (k q p : ℕ) → k < 3 → q < s size → p < s size → moves s m k q p ≡ false
   unfolding movable kind
-  no-kind m e k q p hk = no-origin m k (miss 3 (λ k. ltb (origin s m k) (s size)) e k hk) q p
+  no-kind m e k q p hk = no-origin m k (miss 3 (λ k. ltb (origin any s m k) (s size)) e k hk) q p
 
   abbrev IsLetter : Choice → Type 0
   IsLetter (letter k m q p) = Unit {0}
@@ -132,35 +132,35 @@ module _ (s : State) where
 
   -- what the lowest letter is the first of
   record Lowest (k m q : ℕ) : Type 0 where
-    first-message : first-from (s count) 0 (movable s) ≡ m
-    first-kind : kind s m ≡ k
-    first-origin : origin s m k ≡ q
+    first-message : first-from (s count) 0 (movable any s) ≡ m
+    first-kind : kind any s m ≡ k
+    first-origin : origin any s m k ≡ q
     low-message : m < s count
 
-  lowest-first : (k m q p : ℕ) → lowest s ≡ letter k m q p → Lowest k m q
+  lowest-first : (k m q p : ℕ) → lowest any s ≡ letter k m q p → Lowest k m q
   unfolding lowest letter-of
   lowest-first k m q p e = go (ltb x (s count)) refl e
     where
       x : ℕ
-      x = first-from (s count) 0 (movable s)
+      x = first-from (s count) 0 (movable any s)
 
       go : (b : Bool) → ltb x (s count) ≡ b
-          → elim b as (λ _. Choice) [ true ↦ letter-of s x | false ↦ nothing ] ≡ letter k m q p → Lowest k m q
+          → elim b as (λ _. Choice) [ true ↦ letter-of any s x | false ↦ nothing ] ≡ letter k m q p → Lowest k m q
       go true h z =
           let em : x ≡ m = cc in
-          let ek : kind s x ≡ k = cc in
-          let eq : origin s x (kind s x) ≡ q = cc in
+          let ek : kind any s x ≡ k = cc in
+          let eq : origin any s x (kind any s x) ≡ q = cc in
           let l = ltb-true x (s count) h in
           record {
             first-message = em;
-            first-kind = ap (kind s) (sym em) ∙ ek;
-            first-origin = ap₂ (origin s) (sym em) (sym ek) ∙ eq;
+            first-kind = ap (kind any s) (sym em) ∙ ek;
+            first-origin = ap₂ (origin any s) (sym em) (sym ek) ∙ eq;
             low-message = omega (arith, em);
           }
       go false h z = absurd (subst IsLetter (sym z) tt)
 
   -- and so none that moves stands before it
-  pub lowest-before : (k m q p : ℕ) → lowest s ≡ letter k m q p → (x j o r : ℕ)
+  pub lowest-before : (k m q p : ℕ) → lowest any s ≡ letter k m q p → (x j o r : ℕ)
       → Before x j o (record { message = m; kind = k; origin = q }) → j < 3 → o < s size → r < s size
       → moves s x j o r ≡ false
   unfolding kind origin
@@ -170,14 +170,14 @@ module _ (s : State) where
       f = lowest-first k m q p e
 
       go : Before x j o (record { message = m; kind = k; origin = q }) → moves s x j o r ≡ false
-      go (inl l) = no-kind x (earlier (s count) (movable s) m (f .first-message) x l) j o r hj ho hr
+      go (inl l) = no-kind x (earlier (s count) (movable any s) m (f .first-message) x l) j o r hj ho hr
       go (inr (ex, inl l)) =
           ap (λ (y : ℕ). moves s y j o r) ex
-          ∙ no-origin m j (earlier 3 (λ i. ltb (origin s m i) (s size)) k (f .first-kind) j l) o r ho hr
+          ∙ no-origin m j (earlier 3 (λ i. ltb (origin any s m i) (s size)) k (f .first-kind) j l) o r ho hr
       go (inr (ex, inr (ej, l))) =
           ap₂ (λ (y i : ℕ). moves s y i o r) ex ej
           ∙ no-receiver m k o
-          (earlier (s size) (λ i. ltb (receiver s m k i) (s size)) q (f .first-origin) o l) r hr
+          (earlier (s size) (λ i. ltb (receiver any s m k i) (s size)) q (f .first-origin) o l) r hr
 
 -- ---- after the arrival of the lowest letter, in words t of the state that it leaves
 module _ (s t : State) (k m q p : ℕ) (h : Sound s) (same : (c : Cell) → Within c → t c ≡ arrival s k m q p c) where

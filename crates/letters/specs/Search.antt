@@ -11,7 +11,7 @@ use borrow.Author.Tests.{lt-ltb, le-ltb}
 use Rattle.definitions.specs.General.{pick, first-from, bit, with, mask-of}
 use Rattle.definitions.specs.World.{size, count, flight, State}
 use Rattle.definitions.specs.Steps.{is-up}
-use Rattle.definitions.specs.Settle.{Choice, letter, nothing, moves, receiver, origin, kind, movable, letter-of, lowest}
+use Rattle.definitions.specs.Settle.{Choice, letter, nothing, moves, receiver, origin, kind, movable, letter-of, lowest, any}
 use Rattle.base.specs.Tests.{clash, le-or-lt, and-false}
 use Rattle.base.specs.Search.{First, first-law}
 use Rattle.base.specs.Bits.{bit-and, bit-mask-of, bit-mask-of-above}
@@ -85,13 +85,13 @@ waiting-above s m k q p h =
 -- the lowest of them is the receiver, or there is none
 pub receiver-in : (s : State) (m k q r : ℕ) → s size ≤ 16 → r ≡ first-from 16 0 (bit (waiting s m k q))
     → r < s size
-    → receiver s m k q ≡ r
+    → receiver any s m k q ≡ r
 unfolding receiver
 receiver-in s m k q r small e h =
     lowest-in (s size) (waiting s m k q) (moves s m k q) small (waiting-bit s m k q) (rw (← e) h) ∙ sym e
 
 pub receiver-none : (s : State) (m k q r : ℕ) → s size ≤ 16 → r ≡ first-from 16 0 (bit (waiting s m k q))
-    → s size ≤ r → ltb (receiver s m k q) (s size) ≡ false
+    → s size ≤ r → ltb (receiver any s m k q) (s size) ≡ false
 unfolding receiver
 receiver-none s m k q r small e h =
     ap (λ (x : ℕ). ltb x (s size))
@@ -99,23 +99,23 @@ receiver-none s m k q r small e h =
     ∙ le-ltb (s size) (s size) (omega arith)
 
 -- ---- the letter found, and none
--- what the lowest message decides
-choose : State → ℕ → Bool → Choice
-choose s m b = elim b as (λ _. Choice) [ true ↦ letter-of s m | false ↦ nothing ]
+module _ (to : ℕ → Bool) (s : State) where
+  -- what the lowest message decides
+  choose : ℕ → Bool → Choice
+  choose m b = elim b as (λ _. Choice) [ true ↦ letter-of to s m | false ↦ nothing ]
 
-pub lowest-found : (s : State) (m k q r : ℕ) → first-from (s count) 0 (movable s) ≡ m → m < s count
-    → kind s m ≡ k
-    → origin s m k ≡ q → receiver s m k q ≡ r → lowest s ≡ letter k m q r
-unfolding lowest letter-of choose
-lowest-found s m k q r em h ek eq er =
-    ap (λ (x : ℕ). choose s x (ltb x (s count))) em
-    ∙ ap (choose s m) (lt-ltb m (s count) h)
-    ∙ ap (λ (x : ℕ). letter x m (origin s m x) (receiver s m x (origin s m x))) ek
-    ∙ ap (λ (x : ℕ). letter k m x (receiver s m k x)) eq
-    ∙ ap (letter k m q) er
+  pub lowest-found : (m k q r : ℕ) → first-from (s count) 0 (movable to s) ≡ m → m < s count → kind to s m ≡ k
+      → origin to s m k ≡ q → receiver to s m k q ≡ r → lowest to s ≡ letter k m q r
+  unfolding lowest letter-of choose
+  lowest-found m k q r em h ek eq er =
+      ap (λ (x : ℕ). choose x (ltb x (s count))) em
+      ∙ ap (choose m) (lt-ltb m (s count) h)
+      ∙ ap (λ (x : ℕ). letter x m (origin to s m x) (receiver to s m x (origin to s m x))) ek
+      ∙ ap (λ (x : ℕ). letter k m x (receiver to s m k x)) eq
+      ∙ ap (letter k m q) er
 
-pub lowest-none : (s : State) → first-from (s count) 0 (movable s) ≡ s count → lowest s ≡ nothing
-unfolding lowest choose
-lowest-none s e =
-    ap (λ (x : ℕ). choose s x (ltb x (s count))) e
-    ∙ ap (choose s (s count)) (le-ltb (s count) (s count) (omega arith))
+  pub lowest-none : first-from (s count) 0 (movable to s) ≡ s count → lowest to s ≡ nothing
+  unfolding lowest choose
+  lowest-none e =
+      ap (λ (x : ℕ). choose x (ltb x (s count))) e
+      ∙ ap (choose (s count)) (le-ltb (s count) (s count) (omega arith))

@@ -5,7 +5,7 @@ ghost use lib.ListN.{length};
 ghost use Rattle.definitions.specs.General.{with, mask-of, pick};
 ghost use Rattle.definitions.specs.World.{size, count, view};
 ghost use Rattle.definitions.specs.Steps.{is-up};
-ghost use Rattle.definitions.specs.Settle.{lowest};
+ghost use Rattle.definitions.specs.Settle.{lowest, any};
 ghost use Rattle.letters.specs.Letters.{choice-of};
 ghost use Rattle.letters.specs.Search.{waiting};
 ghost use Rattle.letters.specs.Places.{Passed};
@@ -60,7 +60,7 @@ pub struct Place {
 // The lowest letter to an up process, by message, kind, from, to. None stands before the place.
 pub fn lowest_letter(w: &[u16], up: u16, from: Place) -> Letter
     requires { ⌜ (length (now w) ≡ 20480) × (view (now w) size ≤ 16) × (view (now w) count ≤ 64) × (up ≡ mask-of (view (now w) size) (is-up (view (now w)))) × Passed (view (now w)) from ⌝ }
-    ensures { λ r. ⌜ choice-of r ≡ lowest (view (now (w .entry))) ⌝ }
+    ensures { λ r. ⌜ choice-of r ≡ lowest any (view (now (w .entry))) ⌝ }
 {
     let n = cells::word(w, cells::SIZE);
     let messages = cells::word(w, cells::COUNT);

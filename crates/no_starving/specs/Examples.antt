@@ -14,7 +14,7 @@ use Rattle.definitions.specs.Setup.{fresh, setup-bits, setup-group, good-setup,
 use Rattle.definitions.specs.Sound.{fit}
 use Rattle.definitions.specs.Machine.{with-tables, ready, lowest-short, lowest-awaited, short-of, awaited, deliverable, deliverable-at, merge, causal-one, causal-all, appended, raised-next, due, send-ok, send-oks, fifo-one, cascade, raised, stamped, numbered, posted, multicast, leave, mark, hold, arrival}
 use Rattle.definitions.specs.Steps.{read, good-mask, in-flight, refusal, step}
-use Rattle.definitions.specs.Settle.{moves, receiver, origin, kind, movable, letter-of, lowest, origin-to, kind-to, message-to, letter-to, has-letter, served, fair, Manner, lowest-first, by-turns, done, settle-from}
+use Rattle.definitions.specs.Settle.{moves, receiver, origin, kind, movable, letter-of, lowest, has-letter, served, fair, Manner, lowest-first, by-turns, done, settle-from}
 use Rattle.definitions.specs.History.{Item, tick, act, run}
 use Rattle.definitions.specs.Words.{making-refusal, settled-words, settle-reply, log-words, on-words, started-words}
 use Rattle.definitions.specs.NothingToCome.{ToCome}
@@ -67,7 +67,7 @@ unfolding ℕ-discrete every some first-from absent chosen loop bit with without
     setup-bits setup-group good-setup setup-refusal made with-tables ready lowest-short lowest-awaited short-of awaited
     deliverable deliverable-at merge causal-one causal-all appended raised-next due send-ok send-oks fifo-one cascade
     raised stamped numbered posted multicast leave mark hold arrival read has-group good-mask refusal step tick act run
-    moves receiver origin kind movable letter-of lowest origin-to kind-to message-to letter-to has-letter served fair
+    moves receiver origin kind movable letter-of lowest has-letter served fair
     settle-from settle
 computed = (
   refl,
@@ -172,7 +172,7 @@ unfolding ℕ-discrete every some first-from absent chosen loop bit with without
     setup-bits setup-group made with-tables ready lowest-short lowest-awaited short-of awaited
     deliverable deliverable-at merge causal-one causal-all appended raised-next due send-ok send-oks fifo-one cascade
     raised stamped numbered posted multicast leave mark hold arrival read has-group good-mask refusal step tick act run
-    moves receiver origin kind movable letter-of lowest origin-to kind-to message-to letter-to has-letter served fair
+    moves receiver origin kind movable letter-of lowest has-letter served fair
     settle-from settle fit
 told-apart =
     let reached = run on-states (started three) four-of-0 .now in (

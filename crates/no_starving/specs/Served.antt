@@ -9,7 +9,7 @@ use Rattle.definitions.specs.World.{State, put, has-group}
 use Rattle.definitions.specs.Setup.{fresh, setup-bits, setup-group, made}
 use Rattle.definitions.specs.Machine.{with-tables, ready, lowest-short, lowest-awaited, short-of, awaited, deliverable, deliverable-at, merge, causal-one, causal-all, appended, raised-next, due, send-ok, send-oks, fifo-one, cascade, raised, stamped, numbered, posted, multicast, leave, mark, hold, arrival}
 use Rattle.definitions.specs.Steps.{read, good-mask, refusal, step}
-use Rattle.definitions.specs.Settle.{Choice, letter, moves, receiver, origin, kind, movable, letter-of, lowest, origin-to, kind-to, message-to, letter-to, has-letter, served, fair, Manner, lowest-first, by-turns, choice, Settled, settle-from, settle-afresh}
+use Rattle.definitions.specs.Settle.{Choice, letter, moves, receiver, origin, kind, movable, letter-of, lowest, has-letter, served, fair, Manner, lowest-first, by-turns, choice, Settled, settle-from, settle-afresh}
 use Rattle.definitions.specs.History.{Item, tick, act, run}
 use Rattle.world.specs.Items.{multicasting, three}
 use Rattle.world.specs.Runs.{on-states, started}
@@ -48,5 +48,5 @@ unfolding ℕ-discrete every some first-from absent chosen loop bit with without
     setup-group made with-tables ready lowest-short lowest-awaited short-of awaited deliverable deliverable-at merge
     causal-one causal-all appended raised-next due send-ok send-oks fifo-one cascade raised stamped numbered posted
     multicast leave mark hold arrival read has-group good-mask refusal step tick act run moves receiver origin kind movable
-    letter-of lowest origin-to kind-to message-to letter-to has-letter served fair settle-from
+    letter-of lowest has-letter served fair settle-from
 in-turn = (refl, refl, refl)

@@ -73,14 +73,16 @@ module _ (w : List ℕ) (long : length w ≡ 20480) where
   -- done after both
   pub dead-done : settle-reply lowest-first (run on-words (started-words w apart) dead .now) 33792 ≡ gives (done 2)
   dead-done =
-      ap (λ (u : List ℕ). settle-reply lowest-first u 33792) now-is ∙ reply-carried lowest-first end sound-end 33792 ∙ ap gives (computed .1)
+      ap (λ (u : List ℕ). settle-reply lowest-first u 33792) now-is ∙ reply-carried lowest-first end sound-end 33792
+      ∙ ap gives (computed .1)
 
   -- so nothing is left to come
   pub dead-nothing : SomeToCome (settled-words lowest-first (run on-words (started-words w apart) dead .now) 33792) → ⊥
   dead-nothing = nothing-to-come .after-done lowest-first now 33792 2 dead-done
 
   -- though a letter is in flight, to process 0, which is down
-  pub dead-letter : in-flight (view (settled-words lowest-first (run on-words (started-words w apart) dead .now) 33792)) 0 0 0 0 ≡ true
+  pub dead-letter :
+      in-flight (view (settled-words lowest-first (run on-words (started-words w apart) dead .now) 33792)) 0 0 0 0 ≡ true
   dead-letter =
       ap (λ (u : List ℕ). in-flight (view u) 0 0 0 0)
       (ap (λ (u : List ℕ). settled-words lowest-first u 33792) now-is ∙ settle-carried lowest-first end sound-end 33792)
@@ -90,7 +92,9 @@ module _ (w : List ℕ) (long : length w ≡ 20480) where
 
   -- stopped before the second
   pub dead-stopped : settle-reply lowest-first (run on-words (started-words w apart) dead .now) 1 ≡ gives (stopped 1)
-  dead-stopped = ap (λ (u : List ℕ). settle-reply lowest-first u 1) now-is ∙ reply-carried lowest-first end sound-end 1 ∙ ap gives (computed .2)
+  dead-stopped =
+      ap (λ (u : List ℕ). settle-reply lowest-first u 1) now-is ∙ reply-carried lowest-first end sound-end 1
+      ∙ ap gives (computed .2)
 
   pub dead-remains : SomeToCome (settled-words lowest-first (run on-words (started-words w apart) dead .now) 1)
   dead-remains = nothing-to-come .after-stopped lowest-first now 1 1 dead-stopped .1
@@ -100,7 +104,8 @@ module _ (w : List ℕ) (long : length w ≡ 20480) where
   lost-taken = ap (λ (u : List ℕ). step-refusal u losing) now-is ∙ refusal-carried end sound-end losing ∙ computed .6
 
   pub dead-lost : in-flight
-      (view (run on-words (started-words w apart) (dead ++ (given losing ∷ settling lowest-first 33792 ∷ [])) .now)) 0 0 0 1 ≡ false
+      (view (run on-words (started-words w apart) (dead ++ (given losing ∷ settling lowest-first 33792 ∷ [])) .now)) 0 0 0 1
+      ≡ false
   unfolding read every
   dead-lost =
       nothing-to-come .lost-gone w apart losing dead (settling lowest-first 33792 ∷ []) 0 0 0 1 made-taken refl lost-taken

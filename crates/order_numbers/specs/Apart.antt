@@ -11,7 +11,7 @@ use Rattle.definitions.specs.World.{size, causal-length, State, encode, view, i
 use Rattle.definitions.specs.Setup.{fresh, made}
 use Rattle.definitions.specs.Machine.{arrival}
 use Rattle.definitions.specs.Steps.{Step, multicasts, arrives, loses, trusts, crashes, malformed, read, refusal, accepted, step}
-use Rattle.definitions.specs.Settle.{moves, receiver, origin, kind, movable, letter-of, lowest, origin-to, kind-to, message-to, letter-to, has-letter, served, fair, Manner, lowest-first, by-turns, choice}
+use Rattle.definitions.specs.Settle.{moves, receiver, origin, kind, movable, letter-of, lowest, has-letter, served, fair, Manner, lowest-first, by-turns, choice}
 use Rattle.definitions.specs.History.{Event, grown, gained, casted, Run, Item, given, settling, taken, tick, settles, act, run}
 use Rattle.definitions.specs.Words.{making-refusal, step-refusal, settle-reply, log-length, log-words, on-words, started-words}
 use Rattle.definitions.specs.OrderNumbers.{erased, erased-words, erased-step, erased-bytes, erased-items, Apart}
@@ -60,8 +60,7 @@ taken-erased r x =
 
 -- the letter that settle chooses
 choice-erased : (h : Manner) (x : ℕ) (s : State) → choice h x (erased s) ≡ choice h x s
-unfolding erased lowest movable letter-of kind origin receiver moves fair served has-letter letter-to message-to kind-to
-    origin-to
+unfolding erased lowest movable letter-of kind origin receiver moves fair served has-letter
 choice-erased lowest-first x s = refl
 choice-erased by-turns x s = refl
 

@@ -1,7 +1,7 @@
 -- The letters of a sound state that can move, sorted (Queues), give the choice by turns: the first waiting process from the
 -- turn on, or else of all; its lowest message; the lowest place. Assumes nothing.
-use mathlib.Core.Path.{_≡_, sym, ap, ap₂, _∙_, subst}
-use mathlib.Core.Bool.{Bool, true, false}
+use mathlib.Core.Path.{_≡_, refl, sym, ap, ap₂, _∙_, subst}
+use mathlib.Core.Bool.{Bool, true, false, _&&_}
 use mathlib.Core.List.{List}
 use mathlib.Core.Logic.{_⊎_, inl, inr}
 use Prim.Native.Nat.{ℕ, _+_, _-_, _*_, _/_, _%_, _^_, _≤_, _<_}
@@ -9,16 +9,16 @@ use native.Mathlib.Omega.{arith}
 use lib.Dec.{ltb, eqb}
 use lib.ListN.{getD}
 use lib.Pow.{shr-shr}
-use borrow.Author.Tests.{lt-ltb, le-ltb, ltb-true}
+use borrow.Author.Tests.{lt-ltb, le-ltb, ltb-true, eqb-true, ne-eqb}
 use Rattle.definitions.specs.General.{first-from, bit}
 use Rattle.definitions.specs.World.{size, count, State}
-use Rattle.definitions.specs.Settle.{Choice, letter, nothing, moves, origin-to, kind-to, message-to, letter-to, has-letter, served, fair}
-use Rattle.base.specs.Tests.{same, both, both-l, both-r, bool-cases, clash, le-or-lt, pick-yes, pick-no}
+use Rattle.definitions.specs.Settle.{Choice, letter, nothing, moves, receiver, origin, kind, movable, lowest as lowest-letter, has-letter, served, fair}
+use Rattle.base.specs.Tests.{same, both, both-l, both-r, both-i, eqb-refl, bool-cases, clash, le-or-lt, pick-yes, pick-no}
 use Rattle.base.specs.Search.{first-law}
 use Rattle.sets.specs.Lowest.{lowest}
 use Rattle.world.specs.SoundLaws.{Sound, size-high, count-high}
-use Rattle.world.specs.StepLaws.{hit, miss}
-use Rattle.letters.specs.Search.{waiting, waiting-bit}
+use Rattle.world.specs.StepLaws.{hit, ChosenTo, lowest-law}
+use Rattle.letters.specs.Search.{waiting, waiting-bit, lowest-found}
 use Rattle.queues.specs.Queues.{Queues, some-member, ahead-of, served-of}
 use Rattle.gathering.specs.Gathered.{lettered, letter-is}
 
@@ -45,13 +45,6 @@ first-past n t f none = elim (le-or-lt (t + n) (first-from n t f)) [
   | inr a ↦ clash (first-law n t f .hit a) (none (first-from n t f) (first-law n t f .low) a)
 ]
 
--- where there is one, the search finds one
-finds : (n : ℕ) (f : ℕ → Bool) (i : ℕ) → i < n → f i ≡ true → ltb (first-from n 0 f) n ≡ true
-finds n f i l e = elim (bool-cases (ltb (first-from n 0 f) n)) [
-  | inl a ↦ a
-  | inr a ↦ clash e (miss n f a i l)
-]
-
 -- a set from t on
 bit-shift : (x t j : ℕ) → bit (x / 2 ^ t) j ≡ bit x (t + j)
 unfolding bit
@@ -65,6 +58,37 @@ module _ (s : State) (h : Sound s) where
       let ek : (k * 16 + q) / 16 ≡ k = omega arith in
       let eq : (k * 16 + q) % 16 ≡ q = omega arith in
       ap₂ (λ (a b : ℕ). bit (waiting s x a b) r) ek eq ∙ waiting-bit s x k q r hr ∙ e
+
+  -- ---- the searches of the letters to r alone
+  module _ (x k o r : ℕ) (hr : r < s size) where
+    receiver-is : moves s x k o r ≡ true → receiver (eqb r) s x k o ≡ r
+    unfolding receiver
+    receiver-is e =
+        first-is (s size) 0 (λ p. eqb r p && moves s x k o p) r (omega arith) (omega arith)
+        (both-i (eqb r r) (moves s x k o r) (eqb-refl r) e)
+        (λ p _ l. ap (λ (b : Bool). b && moves s x k o p) (ne-eqb r p (λ d. absurd (omega arith))))
+
+    has-receiver : ltb (receiver (eqb r) s x k o) (s size) ≡ moves s x k o r
+    unfolding receiver
+    has-receiver =
+        same (ltb p (s size)) (moves s x k o r)
+        (λ e.
+        let h = hit (s size) (λ p. eqb r p && moves s x k o p) e in
+        subst (λ (y : ℕ). moves s x k o y ≡ true) (sym (eqb-true r p (both-l (eqb r p) (moves s x k o p) h)))
+        (both-r (eqb r p) (moves s x k o p) h))
+        (λ e. lt-ltb p (s size) (omega (arith, receiver-is e)))
+      where
+        p : ℕ
+        p = receiver (eqb r) s x k o
+
+  -- a kind that has a sender has a letter from it
+  origin-moves : (x k r : ℕ) → r < s size → ltb (origin (eqb r) s x k) (s size) ≡ true
+      → (origin (eqb r) s x k < s size) × (moves s x k (origin (eqb r) s x k) r ≡ true)
+  unfolding origin
+  origin-moves x k r hr e = (
+    ltb-true (origin (eqb r) s x k) (s size) e,
+    sym (has-receiver x k (origin (eqb r) s x k) r hr) ∙ hit (s size) (λ o. ltb (receiver (eqb r) s x k o) (s size)) e,
+  )
 
   module _ (a : List ℕ) (q : Queues (lettered s) a) where
     -- the places of x to r; a lowest one is below 48
@@ -90,49 +114,49 @@ module _ (s : State) (h : Sound s) where
           ∙ first-law 64 0 (bit (getD a (x * 16 + r) 0)) .miss j (omega arith) l
 
       -- kind and origin
-      origin-is : origin-to s r x (place / 16) ≡ place % 16
-      unfolding origin-to
+      origin-is : origin (eqb r) s x (place / 16) ≡ place % 16
+      unfolding origin
       origin-is =
           let f = letter-is s h x place r hx (place-low .0) hr (place-low .1) in
-          first-is (s size) 0 (λ o. moves s x (place / 16) o r) (place % 16) (omega arith) (omega (arith, f .1)) (f .3)
-          (λ o _ l. elim (bool-cases (moves s x (place / 16) o r)) [
+          first-is (s size) 0 (λ o. ltb (receiver (eqb r) s x (place / 16) o) (s size)) (place % 16) (omega arith)
+          (omega (arith, f .1)) (has-receiver x (place / 16) (place % 16) r (f .2) ∙ f .3)
+          (λ o _ l. has-receiver x (place / 16) o r (f .2)
+          ∙ elim (bool-cases (moves s x (place / 16) o r)) [
             | inr z ↦ z
             | inl z ↦ clash (place-of x (place / 16) o r (omega arith) (f .2) z)
                 (place-first (place / 16 * 16 + o) (omega arith))
           ])
 
-      kind-is : kind-to s r x ≡ place / 16
-      unfolding kind-to origin-to
+      kind-is : kind (eqb r) s x ≡ place / 16
+      unfolding kind
       kind-is =
           let f = letter-is s h x place r hx (place-low .0) hr (place-low .1) in
-          first-is 3 0 (λ k. ltb (origin-to s r x k) (s size)) (place / 16) (omega arith) (omega (arith, place-low .0))
-          (finds (s size) (λ o. moves s x (place / 16) o r) (place % 16) (f .1) (f .3))
-          (λ k _ l. elim (bool-cases (ltb (origin-to s r x k) (s size))) [
+          first-is 3 0 (λ k. ltb (origin (eqb r) s x k) (s size)) (place / 16) (omega arith) (omega (arith, place-low .0))
+          (lt-ltb (origin (eqb r) s x (place / 16)) (s size) (omega (arith, origin-is, f .1)))
+          (λ k _ l. elim (bool-cases (ltb (origin (eqb r) s x k) (s size))) [
             | inr z ↦ z
             | inl z ↦
-                let o : ℕ = origin-to s r x k in
-                let lo = ltb-true o (s size) z in
-                clash (place-of x k o r (omega (arith, size-high s h)) (f .2) (hit (s size) (λ o. moves s x k o r) z))
-                (place-first (k * 16 + o) (omega (arith, size-high s h)))
+                let (lo, m) = origin-moves x k r (f .2) z in
+                clash (place-of x k (origin (eqb r) s x k) r (omega (arith, size-high s h)) (f .2) m)
+                (place-first (k * 16 + origin (eqb r) s x k) (omega (arith, size-high s h)))
           ])
 
     -- whether a message has a letter to r
-    message-has : (x r : ℕ) → x < s count → r < s size → ltb (kind-to s r x) 3 ≡ bit (getD a (1024 + r) 0) x
-    unfolding kind-to origin-to
+    message-has : (x r : ℕ) → x < s count → r < s size → movable (eqb r) s x ≡ bit (getD a (1024 + r) 0) x
+    unfolding movable kind
     message-has x r hx hr =
         let x64 : x < 64 = omega (arith, count-high s h) in
         let r16 : r < 16 = omega (arith, size-high s h) in
-        same (ltb (kind-to s r x) 3) (bit (getD a (1024 + r) 0) x)
+        same (movable (eqb r) s x) (bit (getD a (1024 + r) 0) x)
         (λ e.
-        let k : ℕ = kind-to s r x in
+        let k : ℕ = kind (eqb r) s x in
         let lk = ltb-true k 3 e in
-        let z = hit 3 (λ k. ltb (origin-to s r x k) (s size)) e in
-        let o : ℕ = origin-to s r x k in
-        let lo = ltb-true o (s size) z in
+        let o : ℕ = origin (eqb r) s x k in
+        let (lo, m) = origin-moves x k r hr (hit 3 (λ k. ltb (origin (eqb r) s x k) (s size)) e) in
         q .messages r x r16 x64
         ∙ some-member (getD a (x * 16 + r) 0) (k * 16 + o) (omega (arith, size-high s h))
         (queue-is x r (k * 16 + o) x64 r16 (omega (arith, size-high s h))
-        ∙ place-of x k o r (omega (arith, size-high s h)) hr (hit (s size) (λ o. moves s x k o r) z)))
+        ∙ place-of x k o r (omega (arith, size-high s h)) hr m))
         (λ e. ap (λ (k : ℕ). ltb k 3) (kind-is x r x64 r16 e)
         ∙ lt-ltb (lowest (getD a (x * 16 + r) 0) / 16) 3 (omega (arith, place-low x r x64 r16 e .0)))
 
@@ -164,35 +188,35 @@ module _ (s : State) (h : Sound s) where
           let f = letter-is s h message lowest-place r (w .1) (z .0) (w .0) (z .1) in
           (f .0, z .0, f .2, z .1)
 
-      message-is : message-to s r ≡ lowest (getD a (1024 + r) 0)
-      unfolding message-to
+      message-is : first-from (s count) 0 (movable (eqb r) s) ≡ lowest (getD a (1024 + r) 0)
       message-is =
           let l = letter-low in
-          first-is (s count) 0 (λ x. ltb (kind-to s r x) 3) message (omega arith) (omega (arith, l .0))
+          first-is (s count) 0 (movable (eqb r) s) message (omega arith) (omega (arith, l .0))
           (message-has message r (l .0) (l .2) ∙ message-in)
           (λ x _ k. message-has x r (omega (arith, l .0)) (l .2)
           ∙ first-law 64 0 (bit (getD a (1024 + r) 0)) .miss x (omega arith) k)
 
-      letter-to-is : letter-to s r ≡ letter (lowest-place / 16) message (lowest-place % 16) r
-      unfolding letter-to
-      letter-to-is =
+      lowest-is : lowest-letter (eqb r) s ≡ letter (lowest-place / 16) message (lowest-place % 16) r
+      lowest-is =
           let w = waits-low in
-          ap (λ (x : ℕ). letter (kind-to s r x) x (origin-to s r x (kind-to s r x)) r) message-is
-          ∙ ap (λ (k : ℕ). letter k message (origin-to s r message k) r) (kind-is message r (w .1) (w .0) message-in)
-          ∙ ap (λ (o : ℕ). letter (lowest-place / 16) message o r) (origin-is message r (w .1) (w .0) message-in)
+          let l = letter-low in
+          let f = letter-is s h message lowest-place r (w .1) (l .1) (w .0) (l .3) in
+          lowest-found (eqb r) s message (lowest-place / 16) (lowest-place % 16) r message-is (l .0)
+          (kind-is message r (w .1) (w .0) message-in) (origin-is message r (w .1) (w .0) message-in)
+          (receiver-is message (lowest-place / 16) (lowest-place % 16) r (l .2) (f .3))
 
     has-is : (r : ℕ) → r < s size → has-letter s r ≡ bit (getD a 1040 0) r
-    unfolding has-letter message-to
+    unfolding has-letter
     has-is r hr =
         let r16 : r < 16 = omega (arith, size-high s h) in
         same (has-letter s r) (bit (getD a 1040 0) r)
         (λ e.
-        let x : ℕ = message-to s r in
+        let x : ℕ = first-from (s count) 0 (movable (eqb r) s) in
         let lx = ltb-true x (s count) e in
         q .waits r
         ∙ ap₂ both (lt-ltb r 16 r16)
         (some-member (getD a (1024 + r) 0) x (omega (arith, count-high s h))
-        (sym (message-has x r lx hr) ∙ hit (s count) (λ x. ltb (kind-to s r x) 3) e)))
+        (sym (message-has x r lx hr) ∙ hit (s count) (movable (eqb r) s) e)))
         (λ e. ap (λ (x : ℕ). ltb x (s count)) (message-is r e)
         ∙ lt-ltb _ (s count) (letter-low r e .0))
 
@@ -284,26 +308,19 @@ module _ (s : State) (h : Sound s) where
       unfolding fair
       fair-found l =
           let z = served-is l in
-          let low = waits-process p (z .0) in (
-            z .0,
-            ap (λ (r : ℕ). named r (ltb r (s size))) (z .1) ∙ ap (named p) (lt-ltb p (s size) low)
-                ∙ letter-to-is p (z .0),
-          )
-        where
-          named : ℕ → Bool → Choice
-          named r b = elim b as (λ _. Choice) [ true ↦ letter-to s r | false ↦ nothing ]
+          (z .0, ap (λ (r : ℕ). lowest-letter (eqb r) s) (z .1) ∙ lowest-is p (z .0))
 
       pub fair-none : 64 ≤ served-of (getD a 1040 0) t → fair t s ≡ nothing
       unfolding fair
-      fair-none l = go (le-or-lt 64 i)
+      fair-none l = go (lowest-letter (eqb (served s t)) s) refl (lowest-law (eqb (served s t)) s) (le-or-lt 64 i)
         where
-          named : ℕ → Bool → Choice
-          named r b = elim b as (λ _. Choice) [ true ↦ letter-to s r | false ↦ nothing ]
-
-          go : (64 ≤ ahead-of (getD a 1040 0) t) ⊎ (ahead-of (getD a 1040 0) t < 64) → named (served s t) (ltb (served s t) (s size)) ≡ nothing
-          go (inl z) =
-              let e : served-of (getD a 1040 0) t ≡ lowest (getD a 1040 0) = pick-no _ _ (le-ltb i 64 z) in
-              ap (named (served s t)) (le-ltb (served s t) (s size) (served-nobody z (omega arith)))
-          go (inr z) =
-              let e : served-of (getD a 1040 0) t ≡ t + ahead-of (getD a 1040 0) t = pick-yes _ _ (lt-ltb i 64 z) in
+          go : (c : Choice) → lowest-letter (eqb (served s t)) s ≡ c → ChosenTo (eqb (served s t)) s c
+              → (64 ≤ ahead-of (getD a 1040 0) t) ⊎ (ahead-of (getD a 1040 0) t < 64) → lowest-letter (eqb (served s t)) s ≡ nothing
+          go nothing e c z = e
+          go (letter k m o r) e c (inl z) =
+              let d : served-of (getD a 1040 0) t ≡ lowest (getD a 1040 0) = pick-no _ _ (le-ltb i 64 z) in
+              let low = served-nobody z (omega arith) in
+              absurd (omega (arith, eqb-true (served s t) r (c .0), c .1 .letter .to))
+          go (letter k m o r) e c (inr z) =
+              let d : served-of (getD a 1040 0) t ≡ t + ahead-of (getD a 1040 0) t = pick-yes _ _ (lt-ltb i 64 z) in
               absurd (omega (arith, ahead-low z, size-high s h))

@@ -24,7 +24,7 @@ use Rattle.quiescence.specs.Quiescent.{arrival-size, arrival-count, arrival-up}
 use Rattle.settling.specs.Settling.{Going, arrive-words, lowest-from, lowest-more, rested-known, letter-within}
 use Rattle.world.specs.Layout.{reads-cell, put-same, Within}
 use Rattle.definitions.specs.Machine.{leave, mark, arrival}
-use Rattle.definitions.specs.Settle.{letter, lowest, moves, receiver, origin, kind, movable}
+use Rattle.definitions.specs.Settle.{letter, lowest, moves, receiver, origin, kind, movable, any}
 use Rattle.world.specs.SoundLaws.{size-high, count-high}
 use Rattle.world.specs.StepLaws.{lowest-moves}
 use Rattle.definitions.specs.Steps.{is-up}
@@ -48,7 +48,7 @@ module _ (s : State) (k m q mask : ℕ) (h : Passed s (at k m q)) (hq : q < s si
     in-size : p < s size
     in-size = ltb-true p (s size) (both-l (ltb p (s size)) (moves s m k q p) both-at)
 
-    the-receiver : receiver s m k q ≡ p
+    the-receiver : receiver any s m k q ≡ p
     unfolding receiver
     the-receiver = go (le-or-lt first p) (le-or-lt p first)
       where
@@ -65,28 +65,28 @@ module _ (s : State) (k m q mask : ℕ) (h : Passed s (at k m q)) (hq : q < s si
             clash (r first (omega arith) ∙ ap₂ _&&_ (lt-ltb first (s size) (omega arith)) (first-law (s size) 0 (moves s m k q) .hit (omega arith)))
             (first-law 16 0 (bit mask) .miss first (omega arith) (omega (arith, ep)))
 
-    has-receiver : ltb (receiver s m k q) (s size) ≡ true
-    has-receiver = let l = in-size in lt-ltb (receiver s m k q) (s size) (omega (arith, the-receiver))
+    has-receiver : ltb (receiver any s m k q) (s size) ≡ true
+    has-receiver = let l = in-size in lt-ltb (receiver any s m k q) (s size) (omega (arith, the-receiver))
 
-    the-origin : origin s m k ≡ q
+    the-origin : origin any s m k ≡ q
     unfolding origin
     the-origin =
         from-origin s (at k m q) h
-        ∙ first-hit (λ o. ltb (receiver s m k o) (s size)) (s size) q hq has-receiver
+        ∙ first-hit (λ o. ltb (receiver any s m k o) (s size)) (s size) q hq has-receiver
 
-    the-kind : kind s m ≡ k
+    the-kind : kind any s m ≡ k
     unfolding kind
     the-kind =
         from-kind s (at k m q) h
-        ∙ first-hit (λ j. ltb (origin s m j) (s size)) 3 k (h .kinds)
-        (lt-ltb (origin s m k) (s size) (omega (arith, the-origin)))
+        ∙ first-hit (λ j. ltb (origin any s m j) (s size)) 3 k (h .kinds)
+        (lt-ltb (origin any s m k) (s size) (omega (arith, the-origin)))
 
-    pub lowest-here : lowest s ≡ letter k m q p
+    pub lowest-here : lowest any s ≡ letter k m q p
     unfolding movable
     lowest-here =
-        lowest-found s m k q p
-        (from-message s (at k m q) h ∙ first-hit (movable s) (s count) m hm
-        (lt-ltb (kind s m) 3 (let z = h .kinds in omega (arith, the-kind))))
+        lowest-found any s m k q p
+        (from-message s (at k m q) h ∙ first-hit (movable any s) (s count) m hm
+        (lt-ltb (kind any s m) 3 (let z = h .kinds in omega (arith, the-kind))))
         hm the-kind the-origin the-receiver
 
 -- ---- the receivers, as the code gets them
@@ -150,7 +150,7 @@ pub record Batched (w₀ w x : List ℕ) (live mask made₀ made budget : ℕ) (
   pub same : lowest-from (budget - made₀) made₀ w₀ ≡ lowest-from (budget - made) made w
 
 pub batched-more : {w₀ w u x y : List ℕ} {live mask mask′ made₀ made budget k m q p r : ℕ} {place place′ : Place}
-    → Batched w₀ w x live mask made₀ made budget place → made < budget → lowest (view w) ≡ letter k m q p
+    → Batched w₀ w x live mask made₀ made budget place → made < budget → lowest any (view w) ≡ letter k m q p
     → u ≡ arrive-words w k m q p → Silent (marked-of (view w) k m q p) (view u) r → mask′ ≡ with mask p
     → place′ ≡ next-at k m q r → Index (view u) y → Batched w₀ u y live mask′ made₀ (made + 1) budget place′
 batched-more {w₀} {w} {u} {x} {y} {live} {mask} {mask′} {made₀} {made} {budget} {k} {m} {q} {p} b l e eu s em ea z = record {
@@ -194,7 +194,7 @@ module _ {w₀ w x : List ℕ} {live k m q receivers made₀ budget left mask ma
   sending-member = ap (bit left) ep ∙ first-law 16 0 (bit left) .hit (omega (arith, ep, sending-low))
 
   -- its letter is the lowest
-  pub sending-found : lowest (view w) ≡ letter k m q p
+  pub sending-found : lowest any (view w) ≡ letter k m q p
   sending-found =
       lowest-here (view w) k m q left (h .batched .going .passed) (h .from) (h .message)
       (size-high _ (h .batched .going .sound .reads)) (h .receives) ep sending-low
@@ -244,7 +244,7 @@ module _ {w₀ w x : List ℕ} {live k m q receivers made₀ budget left mask ma
 
 -- ---- a batch begins where the lowest letter was found
 pub going-here : {w : List ℕ} {live mask : ℕ} {place : Place} (k m q p : ℕ) → Going w live mask place
-    → lowest (view w) ≡ letter k m q p → Going w live mask (at k m q)
+    → lowest any (view w) ≡ letter k m q p → Going w live mask (at k m q)
 going-here {w} k m q p g e =
     let a = lowest-moves (view w) k m q p e .letter in
     record {
@@ -260,7 +260,7 @@ going-here {w} k m q p g e =
       };
     }
 
-pub some-receiver : (s : State) (k m q p mask : ℕ) → lowest s ≡ letter k m q p → p < 16 → Receives s k m q mask → mask ≢ 0
+pub some-receiver : (s : State) (k m q p mask : ℕ) → lowest any s ≡ letter k m q p → p < 16 → Receives s k m q mask → mask ≢ 0
 unfolding moves
 some-receiver s k m q p mask e hp r z =
     let a = lowest-moves s k m q p e in

@@ -16,7 +16,7 @@ use Rattle.letters.specs.declared.Place.{Place}
 use Rattle.settling.specs.Settling.{Going, arrive-words, arrived-sound, rested-on}
 use Rattle.world.specs.Layout.{get-encode, put-other, Within}
 use Rattle.definitions.specs.Machine.{leave, mark, arrival}
-use Rattle.definitions.specs.Settle.{letter, lowest, moves}
+use Rattle.definitions.specs.Settle.{letter, lowest, any, moves}
 use Rattle.world.specs.SoundLaws.{Sound, size-high, count-high}
 use Rattle.world.specs.StepLaws.{InFlight, lowest-moves}
 use Rattle.definitions.specs.World.{Cell, size, count, marks, flight, State, put, view}
@@ -27,7 +27,7 @@ next-at k m q r =
     pick (ltb r (m * 48 + k * 16 + q)) (record { message = r / 48; kind = 0; origin = 0 })
     (record { message = m; kind = k; origin = q })
 
-module _ (s t : State) (k m q p r : ℕ) (h : Sound s) (e : lowest s ≡ letter k m q p)
+module _ (s t : State) (k m q p r : ℕ) (h : Sound s) (e : lowest any s ≡ letter k m q p)
     (same : (c : Cell) → Within c → t c ≡ arrival s k m q p c) (silent : Silent (marked-of s k m q p) t r) where
   abbrev place : Place
   place = record { message = m; kind = k; origin = q }
@@ -127,7 +127,7 @@ module _ (s t : State) (k m q p r : ℕ) (h : Sound s) (e : lowest s ≡ letter 
 
 -- ---- what the loop of settle keeps, through an arrival
 pub going-next : {w u : List ℕ} {k m q p live mask mask′ r : ℕ} {at at′ : Place} → Going w live mask at
-    → lowest (view w) ≡ letter k m q p → u ≡ arrive-words w k m q p → Silent (marked-of (view w) k m q p) (view u) r
+    → lowest any (view w) ≡ letter k m q p → u ≡ arrive-words w k m q p → Silent (marked-of (view w) k m q p) (view u) r
     → mask′ ≡ with mask p → at′ ≡ next-at k m q r → Going u live mask′ at′
 going-next {w} {u} {k} {m} {q} {p} {live} {mask} {mask′} {r} {at} {at′} g e eu silent em ea =
     let t : State = arrival (view w) k m q p in

@@ -10,7 +10,7 @@ use Rattle.definitions.specs.General.{bit, with, mask-of}
 use Rattle.definitions.specs.World.{size, count, State, encode, view}
 use Rattle.definitions.specs.Machine.{arrival}
 use Rattle.definitions.specs.Steps.{arrives, step, is-up}
-use Rattle.definitions.specs.Settle.{Choice, letter, nothing, done, stopped, Settled, lowest, Manner, lowest-first, choice, settle-from}
+use Rattle.definitions.specs.Settle.{Choice, letter, nothing, done, stopped, Settled, lowest, any, Manner, lowest-first, choice, settle-from}
 use Rattle.base.specs.Tests.{clash}
 use Rattle.base.specs.Bits.{bit-zero, with-cases}
 use Rattle.world.specs.SoundLaws.{size-high, count-high, sound-words}
@@ -65,11 +65,11 @@ module _ (o : Manner) where
 abbrev pub lowest-from : ℕ → ℕ → List ℕ → Settled (List ℕ)
 lowest-from b n w = settling-from lowest-first b n 0 w
 
-pub lowest-more : (b n : ℕ) (w : List ℕ) (k m q p : ℕ) → n < b → lowest (view w) ≡ letter k m q p
+pub lowest-more : (b n : ℕ) (w : List ℕ) (k m q p : ℕ) → n < b → lowest any (view w) ≡ letter k m q p
     → lowest-from (b - n) n w ≡ lowest-from (b - (n + 1)) (n + 1) (arrive-words w k m q p)
 lowest-more b n w k m q p h e =
     settle-more lowest-first b n 0 w k m q p h e
-    ∙ turn-free (λ u. lowest (view u)) arrive-words (b - (n + 1)) (n + 1) (p + 1) 0 (arrive-words w k m q p)
+    ∙ turn-free (λ u. lowest any (view u)) arrive-words (b - (n + 1)) (n + 1) (p + 1) 0 (arrive-words w k m q p)
 
 -- ---- the processes of a mask are quiescent
 abbrev pub Rested : ℕ → State → Type 0

@@ -2,6 +2,7 @@
 -- chooses is one that would be accepted. Assumes nothing.
 use mathlib.Core.Path.{_≡_, refl, sym, ap, _∙_, subst}
 use mathlib.Core.Bool.{Bool, true, false, _&&_}
+use mathlib.Core.Logic.{_≢_}
 use Prim.Native.Nat.{ℕ, _<_, _^_}
 use native.Mathlib.Omega.{arith}
 use lib.Dec.{ltb}
@@ -9,8 +10,8 @@ use borrow.Author.Tests.{ltb-true, ltb-false, lt-ltb, eqb-true, eq-eqb}
 use Rattle.definitions.specs.General.{first-from, bit}
 use Rattle.definitions.specs.World.{size, count, up, flight, State, is-process, is-message}
 use Rattle.definitions.specs.Steps.{multicasts, arrives, loses, trusts, crashes, good-mask, is-up, in-flight, good-trust, refusal, accepted}
-use Rattle.definitions.specs.Settle.{Choice, letter, nothing, moves, receiver, origin, kind, movable, letter-of, lowest}
-use Rattle.base.specs.Tests.{both-l, both-r, both-i, and-true}
+use Rattle.definitions.specs.Settle.{Choice, letter, nothing, moves, receiver, origin, kind, movable, letter-of, some-letter, lowest, any}
+use Rattle.base.specs.Tests.{both-l, both-r, both-i, and-true, clash}
 use Rattle.base.specs.Refusals.{needs-none}
 use Rattle.base.specs.Search.{first-law}
 
@@ -131,45 +132,76 @@ abbrev pub Chosen : State → Choice → Type 0
 Chosen s (letter k m q p) = Arrives s k m q p
 Chosen s nothing = (k m q p : ℕ) → k < 3 → m < s count → q < s size → p < s size → moves s m k q p ≡ false
 
-letter-moves : (s : State) (m : ℕ) → ltb m (s count) ≡ true → movable s m ≡ true → Chosen s (letter-of s m)
-unfolding letter-of movable kind origin receiver moves
-letter-moves s m hm hk =
-    let k : ℕ = kind s m in
-    let a = hit 3 (λ k. ltb (origin s m k) (s size)) hk in
-    let q : ℕ = origin s m k in
-    let b = hit (s size) (λ q. ltb (receiver s m k q) (s size)) a in
-    let p : ℕ = receiver s m k q in
-    let c = hit (s size) (moves s m k q) b in
-    record {
-      letter = record {
-        kind = ltb-true k 3 hk;
-        message = ltb-true m (s count) hm;
-        from = ltb-true q (s size) a;
-        to = ltb-true p (s size) b;
-        flies = both-l (in-flight s k m q p) (is-up s p) c;
-      };
-      live = eqb-true (s (up p)) 1 (both-r (in-flight s k m q p) (is-up s p) c);
-    }
+-- the lowest letter to a receiver that passes: one that moves, and its receiver passes; or none moves to such a one
+abbrev pub ChosenTo : (ℕ → Bool) → State → Choice → Type 0
+ChosenTo to s (letter k m q p) = (to p ≡ true) × Arrives s k m q p
+ChosenTo to s nothing =
+    (k m q p : ℕ) → k < 3 → m < s count → q < s size → p < s size → (to p && moves s m k q p) ≡ false
 
-none-moves : (s : State) → ltb (first-from (s count) 0 (movable s)) (s count) ≡ false → Chosen s nothing
-unfolding movable kind origin receiver
-none-moves s e k m q p hk hm hq hp =
-    let a = miss (s count) (movable s) e m hm in
-    let b = miss 3 (λ k. ltb (origin s m k) (s size)) a k hk in
-    let c = miss (s size) (λ q. ltb (receiver s m k q) (s size)) b q hq in
-    miss (s size) (moves s m k q) c p hp
+module _ (to : ℕ → Bool) (s : State) where
+  letter-moves : (m : ℕ) → ltb m (s count) ≡ true → movable to s m ≡ true → ChosenTo to s (letter-of to s m)
+  unfolding letter-of movable kind origin receiver moves
+  letter-moves m hm hk =
+      let k : ℕ = kind to s m in
+      let a = hit 3 (λ k. ltb (origin to s m k) (s size)) hk in
+      let q : ℕ = origin to s m k in
+      let b = hit (s size) (λ q. ltb (receiver to s m k q) (s size)) a in
+      let p : ℕ = receiver to s m k q in
+      let d = hit (s size) (λ p. to p && moves s m k q p) b in
+      let c = both-r (to p) (moves s m k q p) d in (
+        both-l (to p) (moves s m k q p) d,
+        record {
+          letter = record {
+            kind = ltb-true k 3 hk;
+            message = ltb-true m (s count) hm;
+            from = ltb-true q (s size) a;
+            to = ltb-true p (s size) b;
+            flies = both-l (in-flight s k m q p) (is-up s p) c;
+          };
+          live = eqb-true (s (up p)) 1 (both-r (in-flight s k m q p) (is-up s p) c);
+        },
+      )
 
-pub lowest-chosen : (s : State) → Chosen s (lowest s)
-unfolding lowest
-lowest-chosen s = go (ltb m (s count)) refl
+  pub none-moves : some-letter to s ≡ false → ChosenTo to s nothing
+  unfolding movable kind origin receiver
+  none-moves e k m q p hk hm hq hp =
+      let a = miss (s count) (movable to s) e m hm in
+      let b = miss 3 (λ k. ltb (origin to s m k) (s size)) a k hk in
+      let c = miss (s size) (λ q. ltb (receiver to s m k q) (s size)) b q hq in
+      miss (s size) (λ p. to p && moves s m k q p) c p hp
+
+  pub lowest-law : ChosenTo to s (lowest to s)
+  unfolding lowest
+  lowest-law = go (some-letter to s) refl
+    where
+      m : ℕ
+      m = first-from (s count) 0 (movable to s)
+
+      go : (b : Bool) → some-letter to s ≡ b
+          → ChosenTo to s (elim b as (λ _. Choice) [ true ↦ letter-of to s m | false ↦ nothing ])
+      go true e = letter-moves m e (hit (s count) (movable to s) e)
+      go false e = none-moves e
+
+  -- where there is one, it is named
+  pub lowest-names : some-letter to s ≡ true → lowest to s ≢ nothing
+  unfolding lowest letter-of
+  lowest-names e z = go (some-letter to s) e z
+    where
+      m : ℕ
+      m = first-from (s count) 0 (movable to s)
+
+      go : (b : Bool) → b ≡ true
+          → elim b as (λ _. Choice) [ true ↦ letter-of to s m | false ↦ nothing ] ≢ nothing
+      go true e z = let y : _≡_ {A = ℕ} 0 1 = cc in absurd (omega arith)
+      go false e z = clash e refl
+
+-- of all receivers
+pub lowest-chosen : (s : State) → Chosen s (lowest any s)
+lowest-chosen s = go (lowest any s) (lowest-law any s)
   where
-    m : ℕ
-    m = first-from (s count) 0 (movable s)
-
-    go : (b : Bool) → ltb m (s count) ≡ b
-        → Chosen s (elim b as (λ _. Choice) [ true ↦ letter-of s m | false ↦ nothing ])
-    go true e = letter-moves s m e (hit (s count) (movable s) e)
-    go false e = none-moves s e
+    go : (c : Choice) → ChosenTo any s c → Chosen s c
+    go (letter k m q p) h = h .1
+    go nothing h = h
 
 -- where none moves, none is in flight to an up process
 pub none-flies : (s : State) → Chosen s nothing → (k m q p : ℕ) → k < 3 → m < s count → q < s size → p < s size
@@ -179,5 +211,5 @@ none-flies s c k m q p hk hm hq hp u =
     let flies : Bool = in-flight s k m q p in
     sym (and-true flies) ∙ ap (λ (b : Bool). flies && b) (sym (eq-eqb (s (up p)) 1 u)) ∙ c k m q p hk hm hq hp
 
-pub lowest-moves : (s : State) (k m q p : ℕ) → lowest s ≡ letter k m q p → Arrives s k m q p
+pub lowest-moves : (s : State) (k m q p : ℕ) → lowest any s ≡ letter k m q p → Arrives s k m q p
 lowest-moves s k m q p e = subst (Chosen s) e (lowest-chosen s)

@@ -1,49 +1,26 @@
 -- The choice by turns: whose turn it is (Turn), and the letter that it names is one that would be accepted; so of either
 -- manner. Assumes nothing.
-use mathlib.Core.Path.{_≡_, refl, subst}
-use mathlib.Core.Bool.{Bool, true, false}
+use mathlib.Core.Path.{_≡_, refl, sym, ap, _∙_, subst}
+use mathlib.Core.Bool.{Bool, true, false, _&&_}
 use mathlib.Core.Logic.{inl, inr}
 use Prim.Native.Nat.{ℕ, _-_, _≤_, _<_}
 use native.Mathlib.Omega.{arith}
-use lib.Dec.{ltb}
+use lib.Dec.{ltb, eqb}
 use borrow.Author.Tests.{ltb-true, ltb-false, eqb-true, eq-eqb}
 use Rattle.definitions.specs.General.{pick, first-from}
 use Rattle.definitions.specs.World.{size, count, up, State}
 use Rattle.definitions.specs.Steps.{is-up, in-flight}
-use Rattle.definitions.specs.Settle.{Choice, letter, nothing, moves, origin-to, kind-to, message-to, letter-to, has-letter, served, fair, Manner, lowest-first, by-turns, choice}
-use Rattle.base.specs.Tests.{both-l, both-r, both-i, bool-cases, clash}
+use Rattle.definitions.specs.Settle.{Choice, letter, nothing, moves, lowest, has-letter, served, fair, Manner, lowest-first, by-turns, choice}
+use Rattle.base.specs.Tests.{both-i, bool-cases, clash, eqb-refl}
 use Rattle.base.specs.Search.{first-law}
-use Rattle.world.specs.StepLaws.{hit, miss, Arrives, Chosen, lowest-chosen}
-
--- the lowest letter to p moves
-letter-to-moves : (s : State) (p : ℕ) → p < s size → has-letter s p ≡ true → Chosen s (letter-to s p)
-unfolding letter-to has-letter message-to kind-to origin-to moves
-letter-to-moves s p hp hm =
-    let m : ℕ = message-to s p in
-    let a = hit (s count) (λ m. ltb (kind-to s p m) 3) hm in
-    let k : ℕ = kind-to s p m in
-    let b = hit 3 (λ k. ltb (origin-to s p m k) (s size)) a in
-    let q : ℕ = origin-to s p m k in
-    let c = hit (s size) (λ q. moves s m k q p) b in
-    record {
-      letter = record {
-        kind = ltb-true k 3 a;
-        message = ltb-true m (s count) hm;
-        from = ltb-true q (s size) b;
-        to = hp;
-        flies = both-l (in-flight s k m q p) (is-up s p) c;
-      };
-      live = eqb-true (s (up p)) 1 (both-r (in-flight s k m q p) (is-up s p) c);
-    }
+use Rattle.world.specs.StepLaws.{hit, miss, Arrives, Chosen, ChosenTo, none-moves, lowest-law, lowest-names, lowest-chosen}
 
 -- to a process that has none no letter moves
-pub has-none : (s : State) (p : ℕ) → has-letter s p ≡ false → (k m q : ℕ) → k < 3 → m < s count → q < s size
+pub has-none : (s : State) (p : ℕ) → p < s size → has-letter s p ≡ false → (k m q : ℕ) → k < 3 → m < s count → q < s size
     → moves s m k q p ≡ false
-unfolding has-letter message-to kind-to origin-to
-has-none s p e k m q hk hm hq =
-    let a = miss (s count) (λ m. ltb (kind-to s p m) 3) e m hm in
-    let b = miss 3 (λ k. ltb (origin-to s p m k) (s size)) a k hk in
-    miss (s size) (λ q. moves s m k q p) b q hq
+unfolding has-letter
+has-none s p hp e k m q hk hm hq =
+    ap (λ (b : Bool). b && moves s m k q p) (sym (eqb-refl p)) ∙ none-moves (eqb p) s e k m q p hk hm hq hp
 
 -- a process to which one moves has one
 pub arrives-has : (s : State) (k m q p : ℕ) → Arrives s k m q p → has-letter s p ≡ true
@@ -53,7 +30,7 @@ arrives-has s k m q p a = elim (bool-cases (has-letter s p)) [
   | inr e ↦
       let l = a .letter in
       clash (both-i (in-flight s k m q p) (is-up s p) (l .flies) (eq-eqb (s (up p)) 1 (a .live)))
-      (has-none s p e k m q (l .kind) (l .message) (l .from))
+      (has-none s p (l .to) e k m q (l .kind) (l .message) (l .from))
 ]
 
 -- ---- whose turn it is: the first from t on that has a letter, or, if none has there, the first of all, or nobody
@@ -95,31 +72,24 @@ turn-law s t = go (ltb p (s size)) refl
 
 -- the letter that it names moves, and where it names none no letter moves
 pub fair-chosen : (t : ℕ) (s : State) → Chosen s (fair t s)
-unfolding fair
-fair-chosen t s = go (ltb r (s size)) refl (turn-law s t)
+unfolding fair has-letter
+fair-chosen t s = go (lowest (eqb r) s) refl (lowest-law (eqb r) s) (turn-law s t)
   where
     r : ℕ
     r = served s t
 
-    go : (b : Bool) → ltb r (s size) ≡ b → Turn s t r
-        → Chosen s (elim b as (λ _. Choice) [ true ↦ letter-to s r | false ↦ nothing ])
-    go true e (ahead a l w f) = letter-to-moves s r l w
-    go true e (around l w f g) = letter-to-moves s r l w
-    go true e (nobody l f) = let h = ltb-true r (s size) e in absurd (omega arith)
-    go false e (ahead a l w f) = let h = ltb-false r (s size) e in absurd (omega arith)
-    go false e (around l w f g) = let h = ltb-false r (s size) e in absurd (omega arith)
-    go false e (nobody l f) = λ k m q p hk hm hq hp. has-none s p (f p hp) k m q hk hm hq
+    go : (c : Choice) → lowest (eqb r) s ≡ c → ChosenTo (eqb r) s c → Turn s t r → Chosen s c
+    go (letter k m q p) e h z = h .1
+    go nothing e h (ahead a l w f) = absurd (lowest-names (eqb r) s w e)
+    go nothing e h (around l w f g) = absurd (lowest-names (eqb r) s w e)
+    go nothing e h (nobody l f) = λ k m q p hk hm hq hp. has-none s p hp (f p hp) k m q hk hm hq
 
 -- its receiver is the one whose turn it is
 pub fair-turn : (t : ℕ) (s : State) (k m q p : ℕ) → fair t s ≡ letter k m q p → Turn s t p
-unfolding fair letter-to
-fair-turn t s k m q p = go (ltb (served s t) (s size))
-  where
-    go : (b : Bool)
-        → _≡_ {A = Choice} (elim b [ true ↦ letter-to s (served s t) | false ↦ nothing ]) (letter k m q p)
-        → Turn s t p
-    go true e = let d : served s t ≡ p = cc in subst (Turn s t) d (turn-law s t)
-    go false e = absurd (let z : _≡_ {A = ℕ} 0 1 = cc in omega arith)
+unfolding fair
+fair-turn t s k m q p e =
+    let h = subst (ChosenTo (eqb (served s t)) s) e (lowest-law (eqb (served s t)) s) in
+    subst (Turn s t) (eqb-true (served s t) p (h .0)) (turn-law s t)
 
 -- ---- either manner
 pub choice-chosen : (o : Manner) (t : ℕ) (s : State) → Chosen s (choice o t s)

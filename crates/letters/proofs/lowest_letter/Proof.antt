@@ -10,7 +10,7 @@ use lib.Dec.{ltb}
 use borrow.Author.Tests.{lt-ltb, le-ltb}
 use Rattle.definitions.specs.General.{bit, first-from}
 use Rattle.definitions.specs.World.{State, size, count, view}
-use Rattle.definitions.specs.Settle.{receiver, origin, kind, movable}
+use Rattle.definitions.specs.Settle.{receiver, origin, kind, movable, any}
 use Rattle.base.specs.Search.{first-skip, first-hit, first-end}
 use Rattle.letters.specs.declared.Letter.the-variants.{Nothing}
 use Rattle.letters.specs.Letters.{choice-of}
@@ -21,13 +21,13 @@ use Rattle.letters.proofs.lowest_letter.Tie as tie
 
 -- from origin q on; from kind k on; from message m on
 abbrev Origins : State → ℕ → ℕ → ℕ → Type 0
-Origins s m k q = origin s m k ≡ first-from (s size - q) q (λ r. ltb (receiver s m k r) (s size))
+Origins s m k q = origin any s m k ≡ first-from (s size - q) q (λ r. ltb (receiver any s m k r) (s size))
 
 abbrev Kinds : State → ℕ → ℕ → Type 0
-Kinds s m k = kind s m ≡ first-from (3 - k) k (λ j. ltb (origin s m j) (s size))
+Kinds s m k = kind any s m ≡ first-from (3 - k) k (λ j. ltb (origin any s m j) (s size))
 
 abbrev Messages : State → ℕ → Type 0
-Messages s m = first-from (s count) 0 (movable s) ≡ first-from (s count - m) m (movable s)
+Messages s m = first-from (s count) 0 (movable any s) ≡ first-from (s count - m) m (movable any s)
 
 abbrev Inv-loop2 : tie.InvT-loop2
 Inv-loop2 w up n messages found₀ m k q₀ found q = (q ≤ n) × (found ≡ Nothing) × Origins (view w) m k q
@@ -134,7 +134,7 @@ loop2-again c =
       omega arith,
       q .loop2 .inv .1,
       q .loop2 .inv .2
-          ∙ first-skip (λ x. ltb (receiver s (m .search .m) (k .loop .k) x) (s size)) (s size) (q .loop2 .q)
+          ∙ first-skip (λ x. ltb (receiver any s (m .search .m) (k .loop .k) x) (s size)) (s size) (q .loop2 .q)
           (omega (arith, r))
           (receiver-none s (m .search .m) (k .loop .k) (q .loop2 .q) (c .before .lowest .result) (r .2)
           (c .before .lowest .ensures ∙ ap (λ (x : ℕ). first-from 16 0 (bit x)) n) (omega (arith, r))),
@@ -153,15 +153,15 @@ loop-again c =
     let m = k .before .before in
     let s = view (m .before .before .before .before .args .w .now) in
     let r = counted m in
-    let e : origin s (m .search .m) (k .loop .k) ≡ s size =
+    let e : origin any s (m .search .m) (k .loop .k) ≡ s size =
     q .loop2 .inv .2
-    ∙ first-end (λ x. ltb (receiver s (m .search .m) (k .loop .k) x) (s size)) (s size) (q .loop2 .q)
+    ∙ first-end (λ x. ltb (receiver any s (m .search .m) (k .loop .k) x) (s size)) (s size) (q .loop2 .q)
     (omega (arith, r)) in (
       omega arith,
       omega arith,
       q .loop2 .inv .1,
       k .loop .inv .3
-          ∙ first-skip (λ j. ltb (origin s (m .search .m) j) (s size)) 3 (k .loop .k) (omega arith)
+          ∙ first-skip (λ j. ltb (origin any s (m .search .m) j) (s size)) 3 (k .loop .k) (omega arith)
           (ap (λ (x : ℕ). ltb x (s size)) e ∙ le-ltb (s size) (s size) (omega arith)),
       first-origin s (m .search .m) _,
       inr refl,
@@ -180,15 +180,15 @@ search-again c =
     let m = k .before .before in
     let s = view (m .before .before .before .before .args .w .now) in
     let r = counted m in
-    let e : kind s (m .search .m) ≡ 3 =
+    let e : kind any s (m .search .m) ≡ 3 =
     k .loop .inv .3
-    ∙ first-end (λ j. ltb (origin s (m .search .m) j) (s size)) 3 (k .loop .k) (omega arith) in (
+    ∙ first-end (λ j. ltb (origin any s (m .search .m) j) (s size)) 3 (k .loop .k) (omega arith) in (
       omega arith,
       omega arith,
       k .loop .inv .1,
       k .loop .inv .2,
       m .search .inv .4
-          ∙ first-skip (movable s) (s count) (m .search .m) (omega (arith, r))
+          ∙ first-skip (movable any s) (s count) (m .search .m) (omega (arith, r))
           (ap (λ (x : ℕ). ltb x 3) e ∙ le-ltb 3 3 (omega arith)),
       refl,
       elim (k .loop .inv .5) [
@@ -203,8 +203,8 @@ returns c =
     let s = view (m .before .before .before .before .args .w .now) in
     let r = counted m in
     ap choice-of (m .search .inv .3)
-    ∙ sym (lowest-none s
-    (m .search .inv .4 ∙ first-end (movable s) (s count) (m .search .m) (omega (arith, r))))
+    ∙ sym (lowest-none any s
+    (m .search .inv .4 ∙ first-end (movable any s) (s count) (m .search .m) (omega (arith, r))))
 
 returns-2 : tie.Need-returns-2 Inv-loop2 μ-loop2 Inv-loop μ-loop Inv-search μ-search
 unfolding movable
@@ -218,19 +218,19 @@ returns-2 c =
     let er = receiver-in s (m .search .m) (k .loop .k) (q .loop2 .q) (b .result) (r .2)
     (b .ensures ∙ ap (λ (x : ℕ). first-from 16 0 (bit x)) (c .before .before .receivers .ensures))
     (omega (arith, r)) in
-    let hq : ltb (receiver s (m .search .m) (k .loop .k) (q .loop2 .q)) (s size) ≡ true =
+    let hq : ltb (receiver any s (m .search .m) (k .loop .k) (q .loop2 .q)) (s size) ≡ true =
     ap (λ (x : ℕ). ltb x (s size)) er ∙ lt-ltb (b .result) (s size) (omega (arith, r)) in
     let eq = q .loop2 .inv .2
-    ∙ first-hit (λ x. ltb (receiver s (m .search .m) (k .loop .k) x) (s size)) (s size) (q .loop2 .q)
+    ∙ first-hit (λ x. ltb (receiver any s (m .search .m) (k .loop .k) x) (s size)) (s size) (q .loop2 .q)
     (omega (arith, r)) hq in
-    let hk : ltb (origin s (m .search .m) (k .loop .k)) (s size) ≡ true =
+    let hk : ltb (origin any s (m .search .m) (k .loop .k)) (s size) ≡ true =
     ap (λ (x : ℕ). ltb x (s size)) eq ∙ lt-ltb (q .loop2 .q) (s size) (omega (arith, r)) in
     let ek = k .loop .inv .3
-    ∙ first-hit (λ j. ltb (origin s (m .search .m) j) (s size)) 3 (k .loop .k) (omega arith) hk in
-    let hm : ltb (kind s (m .search .m)) 3 ≡ true =
+    ∙ first-hit (λ j. ltb (origin any s (m .search .m) j) (s size)) 3 (k .loop .k) (omega arith) hk in
+    let hm : ltb (kind any s (m .search .m)) 3 ≡ true =
     ap (λ (x : ℕ). ltb x 3) ek ∙ lt-ltb (k .loop .k) 3 (omega arith) in
-    let em = m .search .inv .4 ∙ first-hit (movable s) (s count) (m .search .m) (omega (arith, r)) hm in
-    sym (lowest-found s (m .search .m) (k .loop .k) (q .loop2 .q) (b .result) em (omega (arith, r)) ek eq er)
+    let em = m .search .inv .4 ∙ first-hit (movable any s) (s count) (m .search .m) (omega (arith, r)) hm in
+    sym (lowest-found any s (m .search .m) (k .loop .k) (q .loop2 .q) (b .result) em (omega (arith, r)) ek eq er)
 
 pub lowest-letter-spec : {M : Type 1} → statement M
 lowest-letter-spec =

@@ -8,7 +8,7 @@ use native.Mathlib.Omega.{arith}
 use lib.ListN.{length}
 use Rattle.definitions.specs.World.{count, view}
 use Rattle.world.specs.SoundLaws.{size-high, count-high}
-use Rattle.definitions.specs.Settle.{letter, Settled, lowest, lowest-first}
+use Rattle.definitions.specs.Settle.{letter, Settled, lowest, any, lowest-first}
 use Rattle.world.specs.StepLaws.{lowest-moves}
 use Rattle.definitions.specs.General.{gives}
 use Rattle.definitions.specs.Words.{settle-words}
@@ -80,7 +80,7 @@ more c = omega arith
 
 -- the letter that was found is the lowest
 found : (c : tie.After-known-told Inv-loop μ-loop)
-    → lowest (view (c .before .before .before .before .before .before .loop .w)) ≡ letter
+    → lowest any (view (c .before .before .before .before .before .before .loop .w)) ≡ letter
     (c .before .k .given .0 .0) (c .before .k .given .0 .1 .0) (c .before .k .given .0 .1 .1 .0)
     (c .before .k .given .0 .1 .1 .1 .0)
 found c = sym (c .before .before .before .lowest-letter .ensures) ∙ ap choice-of (c .before .k .given .1)
