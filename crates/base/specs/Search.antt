@@ -80,22 +80,32 @@ first-cong (suc k) i f g h =
     (h i (omega arith) (omega arith))
     (first-cong k (suc i) f g (λ j a b. h j (omega arith) (omega arith)))
 
+-- where it is
+pub first-is : (k i : ℕ) (f : ℕ → Bool) (r : ℕ) → i ≤ r → r < i + k → f r ≡ true
+    → ((j : ℕ) → i ≤ j → j < r → f j ≡ false)
+    → first-from k i f ≡ r
+first-is k i f r lo hi e fails = go (le-or-lt first r) (le-or-lt r first)
+  where
+    first : ℕ
+    first = first-from k i f
+
+    go : (first ≤ r) ⊎ (r < first) → (r ≤ first) ⊎ (first < r) → first ≡ r
+    go (inr a) b = clash e (first-law k i f .miss r lo a)
+    go (inl a) (inr b) =
+        clash (first-law k i f .hit (omega arith)) (fails first (first-law k i f .low) b)
+    go (inl a) (inl b) = omega arith
+
+-- where there is none
+pub first-past : (k i : ℕ) (f : ℕ → Bool) → ((j : ℕ) → i ≤ j → j < i + k → f j ≡ false) → i + k ≤ first-from k i f
+first-past k i f fails = elim (le-or-lt (i + k) (first-from k i f)) [
+  | inl a ↦ a
+  | inr a ↦ clash (first-law k i f .hit a) (fails (first-from k i f) (first-law k i f .low) a)
+]
+
 -- what is found among the first k is found there in more, too
 pub first-among : (n k i : ℕ) (f : ℕ → Bool) → k ≤ n → first-from n i f < i + k → first-from n i f ≡ first-from k i f
-first-among n k i f l h = go (le-or-lt a b) (le-or-lt b a)
-  where
-    a : ℕ
-    a = first-from n i f
-
-    b : ℕ
-    b = first-from k i f
-
-    go : (a ≤ b) ⊎ (b < a) → (b ≤ a) ⊎ (a < b) → a ≡ b
-    go (inl c) (inl d) = omega arith
-    go (inr c) d =
-        clash (first-law k i f .hit (omega arith)) (first-law n i f .miss b (first-law k i f .low) c)
-    go (inl c) (inr d) =
-        clash (first-law n i f .hit (omega arith)) (first-law k i f .miss a (first-law n i f .low) d)
+first-among n k i f l h =
+    let z = first-law n i f in sym (first-is k i f (first-from n i f) (z .low) h (z .hit (omega arith)) (z .miss))
 
 -- a loop that searches: past one that fails, at one that passes, at the end
 pub first-skip : (f : ℕ → Bool) (n i : ℕ) → i < n → f i ≡ false

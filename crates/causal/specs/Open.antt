@@ -4,17 +4,16 @@
 use mathlib.Core.Path.{_≡_, refl, sym, ap, _∙_, subst}
 use mathlib.Core.Bool.{Bool, true, false}
 use mathlib.Core.List.{List}
-use mathlib.Core.Logic.{_⊎_, inl, inr}
 use Prim.Native.Nat.{ℕ, _+_, _-_, _≤_, _<_}
 use native.Mathlib.Omega.{arith}
 use lib.Dec.{ltb}
 use lib.ListN.{getD, set, length}
 use lib.Seq.{set-set, set-getD, getD-set-same}
 use borrow.Author.Tests.{ltb-true, lt-ltb}
-use Rattle.base.specs.Tests.{clash, both, both-l, both-r, both-i, le-or-lt}
-use Rattle.definitions.specs.General.{bit, without, first-from, chosen}
+use Rattle.base.specs.Tests.{clash, both, both-l, both-r, both-i}
+use Rattle.definitions.specs.General.{bit, without, chosen}
 use Rattle.base.specs.Bits.{bit-zero}
-use Rattle.base.specs.Search.{First, first-law}
+use Rattle.base.specs.Search.{first-is, first-past}
 use Rattle.sets.specs.Lowest.{Has}
 use Rattle.bounds.specs.Bounds.{Bounds, bounds-state, bounds-words}
 use Rattle.bounds.specs.Run.{run-more, run-stop}
@@ -84,35 +83,16 @@ earliest-state w s p r e h hp few z = record {
 -- it is the definition's choice, which is the length of the log where there is none
 pub earliest-is : (s : State) (p r : ℕ) → r < 64 → Earliest s p r → r ≡ earliest p s
 unfolding chosen
-earliest-is s p r l z = go (le-or-lt first r)
-  where
-    first : ℕ
-    first = first-from (s (fifo-length p)) 0 (deliverable-at s p)
-
-    law : First (s (fifo-length p)) 0 (deliverable-at s p) first
-    law = first-law (s (fifo-length p)) 0 (deliverable-at s p)
-
-    go : (first ≤ r) ⊎ (r < first) → r ≡ first
-    go (inr k) = clash (z .hit l .1) (law .miss r (omega arith) k)
-    go (inl k) = at (le-or-lt r first)
-      where
-        at : (r ≤ first) ⊎ (first < r) → r ≡ first
-        at (inl m) = omega arith
-        at (inr m) =
-            let n = z .hit l .0 in
-            clash (law .hit (omega arith)) (z .miss first m (omega arith))
+earliest-is s p r l z =
+    let n = z .hit l .0 in
+    sym (first-is (s (fifo-length p)) 0 (deliverable-at s p) r (omega arith) (omega arith) (z .hit l .1)
+    (λ j _ k. z .miss j k (omega arith)))
 
 pub earliest-past : (s : State) (p r : ℕ) → s (fifo-length p) ≤ r → Earliest s p r → s (fifo-length p) ≤ earliest p s
 unfolding chosen
-earliest-past s p r l z = go (le-or-lt (s (fifo-length p)) first)
-  where
-    first : ℕ
-    first = first-from (s (fifo-length p)) 0 (deliverable-at s p)
-
-    go : (s (fifo-length p) ≤ first) ⊎ (first < s (fifo-length p)) → s (fifo-length p) ≤ first
-    go (inl k) = k
-    go (inr k) =
-        clash (first-law (s (fifo-length p)) 0 (deliverable-at s p) .hit (omega arith)) (z .miss first (omega arith) k)
+earliest-past s p r l z =
+    let n = first-past (s (fifo-length p)) 0 (deliverable-at s p) (λ j _ k. z .miss j (omega arith) (omega arith)) in
+    omega arith
 
 -- ---- the loop: the words hold a state of the definition's loop; the index is right with the set in hand stored
 pub record Going (p n : ℕ) (s : State) (w x : List ℕ) (places : ℕ) : Type 0 where

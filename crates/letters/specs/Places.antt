@@ -12,7 +12,7 @@ use Rattle.definitions.specs.World.{Cell, size, count, up, flight, State}
 use Rattle.definitions.specs.Machine.{arrival}
 use Rattle.definitions.specs.Steps.{is-up}
 use Rattle.definitions.specs.Settle.{Choice, letter, nothing, moves, receiver, origin, kind, movable, letter-of, lowest, any}
-use Rattle.base.specs.Search.{first-law, first-skip, first-end}
+use Rattle.base.specs.Search.{first-law, first-skip, first-past}
 use Rattle.base.specs.Bits.{mask-of-cong}
 use Rattle.world.specs.Layout.{Within}
 use Rattle.world.specs.SoundLaws.{Sound, size-high}
@@ -44,8 +44,7 @@ first-later f n (suc i) h none =
 
 none-first : (f : ℕ → Bool) (n : ℕ) → ((j : ℕ) → j < n → f j ≡ false) → ltb (first-from n 0 f) n ≡ false
 none-first f n none =
-    ap (λ (x : ℕ). ltb x n) (first-later f n n (omega arith) none ∙ first-end f n n refl)
-    ∙ le-ltb n n (omega arith)
+    let z = first-past n 0 f (λ j _ l. none j (omega arith)) in le-ltb (first-from n 0 f) n (omega arith)
 
 -- ---- what a place passed tells of the search
 module _ (s : State) where

@@ -1,7 +1,6 @@
 -- The search for the lowest letter, as the code goes: by masks, the lowest receiver by trailing zeros. Assumes nothing.
 use mathlib.Core.Path.{_≡_, sym, ap, ap₂, _∙_}
 use mathlib.Core.Bool.{Bool, true, false, _&&_}
-use mathlib.Core.Logic.{_⊎_, inl, inr}
 use Prim.Native.Nat.{ℕ, _+_, _≤_, _<_}
 use native.Mathlib.Numerals.{add-one}
 use native.Mathlib.Omega.{arith}
@@ -12,8 +11,8 @@ use Rattle.definitions.specs.General.{pick, first-from, bit, with, mask-of}
 use Rattle.definitions.specs.World.{size, count, flight, State}
 use Rattle.definitions.specs.Steps.{is-up}
 use Rattle.definitions.specs.Settle.{Choice, letter, nothing, moves, receiver, origin, kind, movable, letter-of, lowest, any}
-use Rattle.base.specs.Tests.{clash, le-or-lt, and-false}
-use Rattle.base.specs.Search.{First, first-law}
+use Rattle.base.specs.Tests.{and-false}
+use Rattle.base.specs.Search.{First, first-law, first-is, first-past}
 use Rattle.base.specs.Bits.{bit-and, bit-mask-of, bit-mask-of-above}
 
 -- ---- the lowest member below n
@@ -22,34 +21,17 @@ module _ (n x : ℕ) (f : ℕ → Bool) (small : n ≤ 16) (same : (p : ℕ) →
   of-mask : First 16 0 (bit x) (first-from 16 0 (bit x))
   of-mask = first-law 16 0 (bit x)
 
-  of-test : First n 0 f (first-from n 0 f)
-  of-test = first-law n 0 f
-
   pub lowest-in : first-from 16 0 (bit x) < n → first-from n 0 f ≡ first-from 16 0 (bit x)
-  lowest-in h = go (le-or-lt (first-from n 0 f) r) (le-or-lt r (first-from n 0 f))
-    where
-      r : ℕ
-      r = first-from 16 0 (bit x)
-
-      hit : f r ≡ true
-      hit = sym (same r h) ∙ of-mask .hit (omega arith)
-
-      go : (first-from n 0 f ≤ r) ⊎ (r < first-from n 0 f) → (r ≤ first-from n 0 f) ⊎ (first-from n 0 f < r)
-          → first-from n 0 f ≡ r
-      go (inl a) (inl b) = omega arith
-      go (inr a) d = clash hit (of-test .miss r (omega arith) a)
-      go (inl a) (inr b) =
-          clash (same (first-from n 0 f) (omega arith) ∙ of-test .hit (omega arith))
-          (of-mask .miss (first-from n 0 f) (omega arith) b)
+  lowest-in h =
+      first-is n 0 f (first-from 16 0 (bit x)) (omega arith) (omega arith)
+      (sym (same (first-from 16 0 (bit x)) h) ∙ of-mask .hit (omega arith))
+      (λ p _ l. sym (same p (omega arith)) ∙ of-mask .miss p (omega arith) l)
 
   pub lowest-past : n ≤ first-from 16 0 (bit x) → first-from n 0 f ≡ n
-  lowest-past h = go (le-or-lt n (first-from n 0 f))
-    where
-      go : (n ≤ first-from n 0 f) ⊎ (first-from n 0 f < n) → first-from n 0 f ≡ n
-      go (inl a) = omega (arith, of-test .high)
-      go (inr a) =
-          clash (same (first-from n 0 f) a ∙ of-test .hit (omega arith))
-          (of-mask .miss (first-from n 0 f) (omega arith) (omega arith))
+  lowest-past h =
+      let z =
+      first-past n 0 f (λ p _ l. sym (same p (omega arith)) ∙ of-mask .miss p (omega arith) (omega arith)) in
+      omega (arith, first-law n 0 f .high)
 
 -- ---- receivers
 -- The up receivers of the letters of kind k for m from q.

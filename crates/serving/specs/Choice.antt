@@ -14,36 +14,13 @@ use Rattle.definitions.specs.General.{first-from, bit}
 use Rattle.definitions.specs.World.{size, count, State}
 use Rattle.definitions.specs.Settle.{Choice, letter, nothing, moves, receiver, origin, kind, movable, lowest as lowest-letter, has-letter, served, fair}
 use Rattle.base.specs.Tests.{same, both, both-l, both-r, both-i, eqb-refl, bool-cases, clash, le-or-lt, pick-yes, pick-no}
-use Rattle.base.specs.Search.{first-law}
+use Rattle.base.specs.Search.{first-law, first-is, first-past}
 use Rattle.sets.specs.Lowest.{lowest}
 use Rattle.world.specs.SoundLaws.{Sound, size-high, count-high}
 use Rattle.world.specs.StepLaws.{hit, ChosenTo, lowest-law}
 use Rattle.letters.specs.Search.{waiting, waiting-bit, lowest-found}
 use Rattle.queues.specs.Queues.{Queues, some-member, ahead-of, served-of}
 use Rattle.gathering.specs.Gathered.{lettered, letter-is}
-
--- ---- searches
--- where the first is
-first-is : (n t : ℕ) (f : ℕ → Bool) (i : ℕ) → t ≤ i → i < t + n → f i ≡ true
-    → ((j : ℕ) → t ≤ j → j < i → f j ≡ false)
-    → first-from n t f ≡ i
-first-is n t f i lo hi e none = go (le-or-lt first i) (le-or-lt i first)
-  where
-    first : ℕ
-    first = first-from n t f
-
-    go : (first ≤ i) ⊎ (i < first) → (i ≤ first) ⊎ (first < i) → first ≡ i
-    go (inr a) b = clash e (first-law n t f .miss i lo a)
-    go (inl a) (inr b) =
-        clash (first-law n t f .hit (omega arith)) (none first (first-law n t f .low) b)
-    go (inl a) (inl b) = omega arith
-
--- where there is none
-first-past : (n t : ℕ) (f : ℕ → Bool) → ((j : ℕ) → t ≤ j → j < t + n → f j ≡ false) → t + n ≤ first-from n t f
-first-past n t f none = elim (le-or-lt (t + n) (first-from n t f)) [
-  | inl a ↦ a
-  | inr a ↦ clash (first-law n t f .hit a) (none (first-from n t f) (first-law n t f .low) a)
-]
 
 -- a set from t on
 bit-shift : (x t j : ℕ) → bit (x / 2 ^ t) j ≡ bit x (t + j)

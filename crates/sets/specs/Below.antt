@@ -7,10 +7,10 @@ use native.Mathlib.Omega.{arith}
 use native.Mathlib.Decide.{ℕ-discrete}
 use lib.Dec.{ltb, eqb}
 use borrow.Author.Tests.{lt-ltb, le-ltb, ltb-true, ltb-false, eq-eqb, ne-eqb}
-use Rattle.base.specs.Tests.{both, both-l, both-r, clash, either, le-or-lt, or-false}
+use Rattle.base.specs.Tests.{both, both-l, both-r, either, le-or-lt, or-false}
 use Rattle.definitions.specs.General.{pick, bit, with, first-from}
 use Rattle.base.specs.Bits.{bit-zero, bit-with, bit-and, bit-xor, differs}
-use Rattle.base.specs.Search.{first-law}
+use Rattle.base.specs.Search.{first-law, first-is, first-past}
 use Rattle.base.specs.Sets.{bit-ext}
 use lib.Bits.{bitAnd, bitXor, and-le-l, xor-add-and}
 use Rattle.sets.specs.Lowest.{Has, lowest, lowest-low, lowest-in}
@@ -90,31 +90,15 @@ module _ (set n : ℕ) (f : ℕ → Bool) (h : Has set (λ m. both (ltb m n) (f 
       both-r (ltb (lowest set) n) (f (lowest set)) (sym (h (lowest set) k) ∙ lowest-in set k)
 
   pub lowest-first : set < 2 ^ 64 → set ≢ 0 → lowest set ≡ first-from n 0 f
-  lowest-first low some = go (le-or-lt first (lowest set)) (le-or-lt (lowest set) first)
-    where
-      first : ℕ
-      first = first-from n 0 f
-
-      l : lowest set < n
-      l = lowest-below low some
-
-      go : (first ≤ lowest set) ⊎ (lowest set < first) → (lowest set ≤ first) ⊎ (first < lowest set) → lowest set ≡ first
-      go (inr a) b =
-          clash (lowest-passes low some) (first-law n 0 f .miss (lowest set) (omega arith) a)
-      go (inl a) (inl b) = omega arith
-      go (inl a) (inr b) =
-          let k = l in
-          clash (first-law n 0 f .hit (omega arith))
-          (sym (member first (omega arith)) ∙ first-law 64 0 (bit set) .miss first (omega arith) b)
+  lowest-first low some =
+      let l = lowest-below low some in
+      sym (first-is n 0 f (lowest set) (omega arith) (omega arith) (lowest-passes low some)
+      (λ i _ k. sym (member i (omega arith)) ∙ first-law 64 0 (bit set) .miss i (omega arith) k))
 
   pub none-first : set ≡ 0 → n ≤ first-from n 0 f
-  none-first e = go (le-or-lt n (first-from n 0 f))
-    where
-      go : (n ≤ first-from n 0 f) ⊎ (first-from n 0 f < n) → n ≤ first-from n 0 f
-      go (inl a) = a
-      go (inr a) =
-          clash (first-law n 0 f .hit (omega arith))
-          (sym (member (first-from n 0 f) a) ∙ ap (λ (y : ℕ). bit y (first-from n 0 f)) e ∙ bit-zero (first-from n 0 f))
+  none-first e =
+      let z = first-past n 0 f (λ i _ l. sym (member i (omega arith)) ∙ ap (λ (y : ℕ). bit y i) e ∙ bit-zero i) in
+      omega arith
 
 -- ---- the members of a that b lacks
 pub bit-minus : (a b i : ℕ) → a < 2 ^ 64 → bit (a - bitAnd a b) i ≡ both (bit a i) (not (bit b i))

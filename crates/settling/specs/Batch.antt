@@ -11,7 +11,7 @@ use lib.Dec.{eqb, ltb}
 use borrow.Author.Tests.{lt-ltb, le-ltb, ltb-true, eq-eqb}
 use Rattle.definitions.specs.General.{pick, first-from, bit, with, without}
 use Rattle.base.specs.Tests.{pick-no, clash, both-l, both-r, both-i, le-or-lt, and-false}
-use Rattle.base.specs.Search.{first-law, first-hit}
+use Rattle.base.specs.Search.{first-law, first-hit, first-is}
 use Rattle.base.specs.Bits.{bit-zero, without-hit, without-other}
 use Rattle.base.specs.Sets.{lowest-low, without-less}
 use Rattle.bounds.specs.Bounds.{sound-bounds}
@@ -50,20 +50,12 @@ module _ (s : State) (k m q mask : ℕ) (h : Passed s (at k m q)) (hq : q < s si
 
     the-receiver : receiver any s m k q ≡ p
     unfolding receiver
-    the-receiver = go (le-or-lt first p) (le-or-lt p first)
-      where
-        first : ℕ
-        first = first-from (s size) 0 (moves s m k q)
-
-        go : (first ≤ p) ⊎ (p < first) → (p ≤ first) ⊎ (first < p) → first ≡ p
-        go (inr a) b =
-            clash (both-r (ltb p (s size)) (moves s m k q p) both-at)
-            (first-law (s size) 0 (moves s m k q) .miss p (omega arith) a)
-        go (inl a) (inl b) = omega arith
-        go (inl a) (inr b) =
-            let l = in-size in
-            clash (r first (omega arith) ∙ ap₂ _&&_ (lt-ltb first (s size) (omega arith)) (first-law (s size) 0 (moves s m k q) .hit (omega arith)))
-            (first-law 16 0 (bit mask) .miss first (omega arith) (omega (arith, ep)))
+    the-receiver =
+        let l = in-size in
+        first-is (s size) 0 (moves s m k q) p (omega arith) (omega arith)
+        (both-r (ltb p (s size)) (moves s m k q p) both-at)
+        (λ j _ b. ap (λ (c : Bool). c && moves s m k q j) (sym (lt-ltb j (s size) (omega arith)))
+        ∙ sym (r j (omega arith)) ∙ first-law 16 0 (bit mask) .miss j (omega arith) (omega (arith, ep)))
 
     has-receiver : ltb (receiver any s m k q) (s size) ≡ true
     has-receiver = let l = in-size in lt-ltb (receiver any s m k q) (s size) (omega (arith, the-receiver))
