@@ -8,7 +8,7 @@ use Rattle.std.specs.Prelude.{◌≡◌, refl, Bool, true, false, ◌⊎◌, ℕ
 use Rattle.std.proofs.Common.{sym, ap, ◌∙◌, subst, inl, inr, arith, eqb-true, eq-eqb}
 use Rattle.std.proofs.Math.Decide.{ℕ_discrete}
 use Rattle.definitions.specs.General.{pick, tally, in_at, bit}
-use Rattle.definitions.specs.World.{size, count, group, up, next, marks, sender, mask, stamp, number, flight, State, addressed}
+use Rattle.definitions.specs.World.{size, count, group, up, next, marks, sender, stamp, flight, State, addressed}
 use Rattle.definitions.specs.Steps.{is_up}
 use Rattle.definitions.specs.History.{Run, Fair}
 use Rattle.base.specs.Tests.{bool_cases, clash, strong, pick_yes, both, both_i, eqb_refl}

@@ -8,7 +8,7 @@ use Rattle.std.proofs.Common.{sym, ap₂, ◌∙◌, subst, inr, arith}
 use Rattle.std.proofs.Math.Logic.{inl}
 use borrow.Author.Tests.{eqb-false, ltb-true}
 use Rattle.definitions.specs.General.{pick, In, in_at, bit, with}
-use Rattle.definitions.specs.World.{size, count, group, trust, up, fifo_length, next, held, marks, fifo, sender, mask, stamp, number, flight, State, put, addressed}
+use Rattle.definitions.specs.World.{size, count, group, trust, up, fifo_length, next, held, marks, fifo, sender, stamp, number, flight, State, put, addressed}
 use Rattle.definitions.specs.Machine.{with_tables, addressees, in_turn, raised, stamped, numbered, multicast, leave, mark, received, posted as post}
 use Rattle.definitions.specs.History.{Event}
 use Rattle.base.specs.Bits.{with_old, with_hit, with_cases}

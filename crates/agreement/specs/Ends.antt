@@ -13,7 +13,7 @@ use Rattle.definitions.specs.General.{pick, In, in_at, bit, with}
 use Rattle.definitions.specs.World.{size, count, group, up, fifo_length, next, held, marks, fifo, sender, stamp, number, State, put, addressed}
 use Rattle.definitions.specs.Machine.{addressees, in_turn, ready, fifo_one, cascade, leave, mark, hold, received, arrival}
 use Rattle.definitions.specs.Steps.{arrives, step}
-use Rattle.definitions.specs.Settle.{Choice, letter, nothing, done, Settled, settle_from}
+use Rattle.definitions.specs.Settle.{Choice, nothing, done, Settled, settle_from}
 use Rattle.definitions.specs.History.{Event, gained, Run, Item, taken, act, AllAlong}
 use Rattle.base.specs.Tests.{clash, at_or_off}
 use Rattle.base.specs.Loop.{loop_keeps}

@@ -7,7 +7,7 @@ use Rattle.std.proofs.Math.Path.{refl, ap, subst}
 use Rattle.std.proofs.Common.{sym, ◌∙◌, arith, not-suc-le-zero}
 use borrow.Author.Tests.{ltb-true}
 use Rattle.definitions.specs.General.{pick, In, in_at, bit}
-use Rattle.definitions.specs.World.{size, count, group, trust, up, causal_length, fifo_length, next, held, marks, fifo, mask, State, put}
+use Rattle.definitions.specs.World.{size, count, group, trust, up, causal_length, next, held, marks, State, put}
 use Rattle.definitions.specs.Setup.{fresh, made}
 use Rattle.definitions.specs.Machine.{with_tables, cascade, raised, stamped, numbered, posted, multicast, leave, received, arrival, trust_set, crash}
 use Rattle.definitions.specs.Steps.{Step, multicasts, arrives, loses, trusts, crashes, malformed, read, accepted, step}

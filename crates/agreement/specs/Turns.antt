@@ -7,7 +7,7 @@ use Rattle.std.proofs.Common.{sym, ap, ap₂, ◌∙◌, subst, inl, inr, arith,
 use Rattle.std.proofs.Math.Decide.{ℕ_discrete}
 use Rattle.std.proofs.lemmas.Bool.{not-true}
 use Rattle.definitions.specs.General.{In, in_at, bit}
-use Rattle.definitions.specs.World.{size, count, group, trust, up, fifo_length, next, held, marks, fifo, sender, mask, number, State, addressed}
+use Rattle.definitions.specs.World.{size, count, group, trust, fifo_length, next, held, marks, fifo, sender, number, State, addressed}
 use Rattle.definitions.specs.Machine.{marked, ready, fifo_one, cascade}
 use Rattle.definitions.specs.History.{Event, Names, names}
 use Rattle.base.specs.Tests.{le_or_lt, clash, both, both_l, both_r, both_i, either, either_e, at_or_off}

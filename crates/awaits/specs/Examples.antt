@@ -1,30 +1,27 @@
 -- Runs and worlds that meet the hypotheses of `awaits`, computed on states: a chain of two links, carried to any lent
 -- words; and sound worlds that no list reaches, each a reached one with a word or two changed, in which every case of the
 -- answer occurs and each slip that no reached world shows would answer otherwise. Assumes nothing.
-use Rattle.std.specs.Prelude.{◌≡◌, refl, true, false, ℕ, ◌<◌, length}
-use Rattle.std.proofs.Math.Path.{sym, ap}
+use Rattle.std.specs.Prelude.{◌≡◌, refl, true, false, ℕ, length}
 use Rattle.std.proofs.Common.{◌∙◌, arith}
 use mathlib.Core.List.{List, [], ◌∷◌}
 use Rattle.std.proofs.Math.Decide.{ℕ_discrete}
-use Rattle.definitions.specs.General.{gives, reply, every, some, first_from, absent, chosen, loop, bit, with, without, mask_of, only, in_at}
-use Rattle.definitions.specs.World.{size, fifo_length, causal_length, fifo, delivered, stamp, State, put, has_group, view}
+use Rattle.definitions.specs.General.{every, some, first_from, absent, chosen, loop, bit, with, without, mask_of, only, in_at}
+use Rattle.definitions.specs.World.{size, fifo_length, causal_length, fifo, delivered, stamp, State, put, has_group}
 use Rattle.definitions.specs.Sound.{fit, sends}
 use Rattle.definitions.specs.Setup.{fresh, setup_bits, setup_group, good_setup, setup_refusal, made}
 use Rattle.definitions.specs.Machine.{with_tables, ready, Awaited, yes_now, message_of, process_alone, lowest_short, lowest_awaited, short_of, awaited, deliverable, deliverable_at, merge, causal_one, causal_all, appended, raised_next, due, send_ok, send_oks, fifo_one, cascade, raised, stamped, numbered, posted, multicast, leave, mark, hold, arrival, trust_set, crash}
 use Rattle.definitions.specs.Steps.{read, good_mask, refusal, step}
 use Rattle.definitions.specs.History.{Item, tick, act, run}
-use Rattle.definitions.specs.Words.{making_refusal, is_waiting, awaited_reply, on_words, started_words}
-use Rattle.definitions.specs.Awaits.{Waits, Named, Chain}
+use Rattle.definitions.specs.Words.{making_refusal, is_waiting, on_words, started_words}
+use Rattle.definitions.specs.Awaits.{Waits}
 use Rattle.world.specs.SoundLaws.{Sound}
 use Rattle.world.specs.Items.{multicasting, arriving, three, until_overtaken}
 use Rattle.world.specs.Runs.{on_states, started}
 use Rattle.keeps.specs.Changes.{put_sound}
 use Rattle.keeps.specs.Keeps.{run_sound, reached_sound}
 use Rattle.order.specs.Runs.{with_history}
-use Rattle.carried.specs.Same.{awaited_agree}
-use Rattle.carried.specs.Calls.{making_carried, view_agree, log_carried, listed_in, in_listed}
+use Rattle.carried.specs.Calls.{making_carried, log_carried, listed_in, in_listed}
 use Rattle.carried.specs.Carried.{words_after}
-use Rattle.awaits.specs.Theorem.{awaits}
 
 -- in a sound world s, message m waits at process p and gets this answer
 pub record Gets (s : State) (p m : ℕ) (a : Awaited) : Type 0 where
@@ -34,10 +31,10 @@ pub record Gets (s : State) (p m : ℕ) (a : Awaited) : Type 0 where
 
 -- ---- two links: process p is in group p. At process 2 message 4 of process 0 waits for 2 of process 1, which has arrived
 -- and waits for 0 of process 3, which has not
-abbrev four : List ℕ
+abbrev pub four : List ℕ
 four = 0 ∷ 4 ∷ 136 ∷ 6 ∷ 0 ∷ 0 ∷ 0 ∷ 0 ∷ []
 
-abbrev linked : List Item
+abbrev pub linked : List Item
 linked =
     multicasting 3 4
     ∷ multicasting 3 2
@@ -54,10 +51,10 @@ linked =
     ∷ arriving 2 4 2 2
     ∷ []
 
-abbrev end : State
+abbrev pub end : State
 end = (run on_states (started four) linked).now
 
-computed : (setup_refusal four ≡ 0)
+pub computed : (setup_refusal four ≡ 0)
     × (end size ≡ 4)
     × (end (fifo_length 2) ≡ 2)
     × (end (fifo 2 1) ≡ 4)
@@ -70,15 +67,15 @@ unfolding ℕ_discrete every some first_from absent chosen loop bit with without
     numbered posted multicast leave mark hold arrival trust_set crash read has_group good_mask refusal step tick act run
 computed = (refl, refl, refl, refl, refl, refl, refl)
 
-sound_end : Sound (run on_states (started four) linked).now
+pub sound_end : Sound (run on_states (started four) linked).now
 sound_end = reached_sound four linked computed.0
 
 -- as a caller has it, over any lent words
 module _ (w : List ℕ) (long : length w ≡ 20480) where
-  made_taken : making_refusal w four ≡ 0
+  pub made_taken : making_refusal w four ≡ 0
   made_taken = making_carried w four long ∙ computed.0
 
-  linked_waits : Waits (run on_words (started_words w four) linked).now 2 4
+  pub linked_waits : Waits (run on_words (started_words w four) linked).now 2 4
   linked_waits =
       rw (words_after w four made_taken linked) (
         in_listed (log_carried end sound_end 2 (omega (arith, computed.1)) false)
@@ -87,20 +84,6 @@ module _ (w : List ℕ) (long : length w ≡ 20480) where
           | in_at i l e ↦ omega (arith, computed.4)
         ],
       )
-
-  pub linked_named : Named (run on_words (started_words w four) linked) 2 4
-  linked_named = awaits.named w four linked made_taken 2 4 linked_waits
-
-  pub linked_answer : awaited_reply (run on_words (started_words w four) linked).now 2 4 ≡ gives (message_of 1 2)
-  unfolding awaited_reply
-  linked_answer =
-      let now = (run on_words (started_words w four) linked).now in
-      ap (λ (n : ℕ). reply n (awaited (view now) 2 4)) ((awaits.answered now 2 4).1 linked_waits)
-      ∙ ap gives (ap (λ (u : List ℕ). awaited (view u) 2 4) (words_after w four made_taken linked)
-      ∙ sym (awaited_agree (view_agree end sound_end) 2 (omega arith) 4 (omega arith)) ∙ computed.5)
-
-  pub linked_chain : (xs : List ℕ) × Chain (run on_words (started_words w four) linked) 2 4 xs × (length xs < 64)
-  linked_chain = awaits.chain w four linked made_taken 2 4 linked_waits
 
 -- ---- from the setup of the third known run, processes 0, 1, 2 in groups 0, 1, 2
 abbrev after_items : List Item → State

@@ -1,35 +1,34 @@
 -- The answer for every run, over states: a message in the FIFO log of p and not in its causal log is told a process q and a
 -- message of it. Of q's messages to the group before the waiting one there are more than del[q], which counts those that p
 -- has delivered causally; the one with del[q] of them ahead of it has the count del[q] + 1. Assumes nothing.
-use Rattle.std.specs.Prelude.{◌≡◌, true, ◌⊎◌, ◌≢◌}
-use Rattle.std.proofs.Common.{sym, ap, ◌∙◌, arith, lt-ltb}
+use Rattle.std.specs.Prelude.{◌≡◌, true, ◌⊎◌}
+use Rattle.std.proofs.Common.{sym, ap, ◌∙◌, arith}
 use Rattle.std.proofs.Math.Bool.{false}
 use Rattle.std.proofs.Math.Logic.{inl, inr}
 use Prim.Native.Nat.{ℕ, suc, ◌+◌, ◌≤◌, ◌<◌}
 use Rattle.std.proofs.Math.Decide.{ℕ_discrete}
-use Rattle.std.proofs.lemmas.Bool.{not-true, not-false}
+use Rattle.std.proofs.lemmas.Bool.{not-false}
 use Rattle.definitions.specs.General.{tally, in_at}
-use Rattle.definitions.specs.World.{size, count, group, delivered, fifo, sender, stamp, State}
-use Rattle.definitions.specs.Machine.{fits, message_of, lowest_short, lowest_awaited, short_of, awaited}
+use Rattle.definitions.specs.World.{size, count, group, fifo, sender, stamp, State}
+use Rattle.definitions.specs.Machine.{fits, message_of, lowest_short, awaited}
 use Rattle.definitions.specs.History.{Before, Run}
 use Rattle.base.specs.Tests.{bool_cases, le_or_lt, clash, both, both_l, both_r, both_i, same}
 use Rattle.base.specs.Count.{tally_past, tally_cong, Nth, nth, nth_of}
-use Rattle.world.specs.Awaited.{Short, short_facts, short_is, lowest_short_law, Next, next_facts, next_is, lowest_awaited_law}
+use Rattle.world.specs.Awaited.{short_is, lowest_short_law, Next}
 use Rattle.effects.specs.Views.{Messages, messages, process}
-use Rattle.order.specs.Knowledge.{Knowledge, knowledge}
-use Rattle.order.specs.Precedence.{before_precedes}
-use Rattle.order.specs.Counters.{of_to, of, to, Counting, sender_before, stamp_lt, counter_before}
+use Rattle.order.specs.Knowledge.{Knowledge}
+use Rattle.order.specs.Counters.{of_to, of, Counting, sender_before, stamp_lt}
 use Rattle.order.specs.Logs.{waits, Stuck}
 use Rattle.order.specs.Cascade.{Fifo, Causal}
 use Rattle.order.specs.Runs.{Whole}
 
 -- ---- over the views: m knows of more of q's messages to g than d; the one with the count d + 1
-data OneWith (w : Messages) (g q d : ℕ) : Type 0 where
+pub data OneWith (w : Messages) (g q d : ℕ) : Type 0 where
   one_with : (y : ℕ) → y < w.total → of_to w q g y ≡ true → w.stamp y g q ≡ d + 1 → OneWith w g q d
 
 module _ {n : ℕ} {w : Messages} {k : Knowledge} (c : Counting n w k) (m g q d : ℕ) (hm : m < w.total)
     (more : d < w.stamp m g q) where
-  next_there : OneWith w g q d
+  pub next_there : OneWith w g q d
   unfolding tally
   next_there =
       go (nth_of w.total (λ z. both (k.before m z) (of_to w q g z)) d (omega (arith, c.stamps m g q hm)))
@@ -86,7 +85,7 @@ module _ {r : Run State} (w : Whole r) (p m : ℕ) (f : Fifo r.now p m) (out : �
   message_low = elim f [ in_at i h e ↦ rw e at ((w.meaning.each p).fifo_log.old i h) ]
 
   -- some process falls short
-  some_short : lowest_short r.now p m < r.now size
+  pub some_short : lowest_short r.now p m < r.now size
   some_short = elim f [ in_at i h e ↦ go i e (w.quiet p i h) ]
     where
       go : (i : ℕ) → r.now (fifo p i) ≡ m
@@ -102,80 +101,6 @@ module _ {r : Run State} (w : Whole r) (p m : ℕ) (f : Fifo r.now p m) (out : �
               above = rw e at lt;
             }))
       ]
-
-  -- a message that is next of a process that falls short
-  module _ (q x : ℕ) (h : Short r.now p m q) (hx : x < r.now count) (n : Next r.now p q x) where
-    -- its count is at most what m knows of, so it is before m
-    before_it : (knowledge r.seen).before m x ≡ true
-    before_it =
-        counter_before w.meaning.counting x m g hx message_low n.to
-        (omega (
-          arith,
-          n.turn,
-          h.above,
-          ap (λ (y : ℕ). r.now (stamp x g y)) n.of,
-          ap (λ (y : ℕ). r.now (stamp m g y)) n.of,
-        ))
-
-    another : x ≢ m
-    another e = h.other (sym n.of ∙ ap (λ (v : ℕ). r.now (sender v)) e)
-
-    -- and above what p has delivered
-    outside : Causal r.now p x → ⊥
-    outside (in_at i k e) =
-        omega (
-          arith,
-          n.turn,
-          (w.meaning.each p).causal_log.prefix.in_below i k,
-          ap (λ (y : ℕ). r.now (stamp y g (r.now (sender y)))) e,
-          ap (λ (y : ℕ). r.now (delivered p (r.now (sender y)))) e,
-          ap (λ (y : ℕ). r.now (stamp x g y)) n.of,
-          ap (λ (y : ℕ). r.now (delivered p y)) n.of,
-        )
-
-    told : awaited r.now p m ≡ message_of q x → Told r p m
-    told a = record {
-      of = q;
-      message = x;
-      answer = a;
-      exists = hx;
-      next = n;
-      precedes = before_precedes r.seen (r.now count) w.formed x m before_it another;
-      undelivered = outside;
-    }
-
-  -- there is one, and the search finds it
-  found : (q : ℕ) → Short r.now p m q → awaited r.now p m ≡ short_of r.now p q → Told r p m
-  unfolding short_of
-  found q h a =
-      let x = lowest_awaited r.now p q in
-      let hx = there in
-      told q x h hx (next_facts r.now p q x ((lowest_awaited_law r.now p q).hit (omega arith)))
-      (a ∙ rw (lt-ltb x (r.now count) hx))
-    where
-      there : lowest_awaited r.now p q < r.now count
-      there = elim (next_there w.meaning.counting m g q (r.now (delivered p q)) message_low h.above) [
-        | one_with y hy o t ↦ elim (le_or_lt (r.now count) (lowest_awaited r.now p q)) [
-          | inr l ↦ l
-          | inl l ↦ clash
-              (next_is r.now p q y (record {
-                of = of (messages r.now) q g y o;
-                to = to (messages r.now) q g y o;
-                turn = t;
-              }))
-              ((lowest_awaited_law r.now p q).miss y (omega arith) (omega arith))
-        ]
-      ]
-
-  -- so every waiting message is told whose message it awaits, and which
-  pub all_told : Told r p m
-  unfolding awaited
-  all_told =
-      let q = lowest_short r.now p m in
-      found q
-      (short_facts r.now p m q
-      (not-true (fits r.now p m q) ((lowest_short_law r.now p m).hit (omega (arith, some_short)))))
-      (rw (lt-ltb q (r.now size) some_short))
 
 -- of q's messages to the group only one is next, so that lowest and highest are the same
 pub next_once : {r : Run State} → Whole r → (p q x y : ℕ) → x < r.now count → y < r.now count → Next r.now p q x

@@ -191,7 +191,7 @@ absent_room n zero f low distinct = omega (arith, tally_le n (λ m. absent 0 m f
 absent_room n (suc k) f low distinct =
     let ih = absent_room n k f (λ i h. low i (omega arith)) (λ i j h l. distinct i j h (omega arith)) in
     let falls = tally_falls n (λ m. absent k m f) (λ m. absent (suc k) m f)
-    (λ m e. out_absent (λ o. elim o [ in_at i l d ↦ absent_out (suc k) m f e (in_at i (omega arith) d) ]))
+    (λ m e. out_absent (λ (o : In k f m). elim o [ in_at i l d ↦ absent_out (suc k) m f e (in_at i (omega arith) d) ]))
     (f k) (low k (omega arith))
     (out_absent (λ o. elim o [ in_at i l d ↦ distinct i k l (omega arith) d ]))
     (in_absent (in_at k (omega arith) refl)) in

@@ -1,7 +1,7 @@
 -- Each letter flies at most once: once it has left flight, by arriving or by being lost, it never flies
 -- again, whatever items follow. For every letter in flight is spent, and none that is spent is sent (Spent).
 -- Assumes nothing.
-use Rattle.std.specs.Prelude.{List, ℕ, ◌-◌}
+use Rattle.std.specs.Prelude.{List, ℕ}
 use Rattle.std.proofs.Common.{inl, inr}
 use Rattle.definitions.specs.World.{State}
 use Rattle.definitions.specs.Setup.{fresh, made}

@@ -2,30 +2,26 @@
 -- potential, and with a budget of at least that it says done. For any choice of the next letter that names
 -- only letters that can move, and names nothing only where none can; both manners have such a choice. Assumes
 -- nothing.
-use Rattle.std.specs.Prelude.{◌≡◌, List}
+use Rattle.std.specs.Prelude.{◌≡◌}
 use Rattle.std.proofs.Math.Path.{refl}
 use Rattle.std.proofs.Common.{ap}
 use Prim.Native.Nat.{ℕ, zero, suc, ◌+◌, ◌*◌, ◌≤◌, ◌<◌}
 use native.Mathlib.Omega.{arith}
 use Rattle.definitions.specs.General.{sum}
 use Rattle.definitions.specs.World.{count, State, put}
-use Rattle.definitions.specs.Setup.{setup_refusal}
 use Rattle.definitions.specs.Machine.{leave, arrival}
 use Rattle.definitions.specs.Steps.{arrives, step}
 use Rattle.definitions.specs.Settle.{Choice, letter, nothing, Manner, choice, Ending, done, stopped, Settled, settle_from}
-use Rattle.definitions.specs.History.{Item, run}
 use Rattle.world.specs.SoundLaws.{Sound}
 use Rattle.world.specs.StepLaws.{Arrives, Chosen, moves_taken}
 use Rattle.world.specs.TurnLaws.{choice_chosen}
 use Rattle.world.specs.SettleLaws.{settle, goes_on}
-use Rattle.world.specs.Runs.{on_states, started}
-use Rattle.keeps.specs.Keeps.{step_sound, reached_sound}
+use Rattle.keeps.specs.Keeps.{step_sound}
 use Rattle.effects.specs.Views.{Ground}
 use Rattle.effects.specs.Holding.{arrival_ground}
 use Rattle.effects.specs.Spent.{arrived_once, step_once}
-use Rattle.bound.specs.Once.{flying_spent}
 use Rattle.bound.specs.Potential.{addressee_count, potential, cost_lower, potential_falls, leave_falls}
-use Rattle.bound.specs.Bound.{ceiling, reached_potential, ceiling_most, sound_potential}
+use Rattle.bound.specs.Bound.{sound_potential}
 
 -- ---- an answer: the arrivals that it names, and whether it says done
 abbrev pub arrivals : Ending → ℕ
@@ -121,7 +117,7 @@ module _ (choose : ℕ → State → Choice) (good : (x : ℕ) (s : State) → C
 
 -- ---- the theorems, of both manners
 module _ (o : Manner) (s : State) (b : ℕ) (h : Sound s) where
-  ended : Ended (choice o) arrival Sound potential b 0 s (settle o s b)
+  pub ended : Ended (choice o) arrival Sound potential b 0 s (settle o s b)
   unfolding settle
   ended = choice_ends (choice o) (choice_chosen o) s b h
 
@@ -136,38 +132,3 @@ module _ (o : Manner) (s : State) (b : ℕ) (h : Sound s) where
       (λ m. addressee_count s m + 4 * (addressee_count s m * addressee_count s m)) ≤ b
       → SaysDone (settle o s b).ending
   sound_settle_done l = ended.finishes (omega (arith, sound_potential s h))
-
--- of a reached world at most the sum of A + 2 × A × A
-module _ (setup : List ℕ) (items : List Item) (ok : setup_refusal setup ≡ 0) where
-  -- the state after the list
-  abbrev end : State
-  end = (run on_states (started setup) items).now
-
-  -- it is sound
-  sound_end : Sound (run on_states (started setup) items).now
-  sound_end = reached_sound setup items ok
-
-  -- its potential
-  few : potential (run on_states (started setup) items).now
-      ≤ sum ((run on_states (started setup) items).now count)
-      (λ m. ceiling (addressee_count (run on_states (started setup) items).now m))
-  few = reached_potential end sound_end (flying_spent setup items)
-
-  -- is at most 33,792
-  pub reached_low : potential (run on_states (started setup) items).now ≤ 33792
-  reached_low = omega (arith, few, ceiling_most end sound_end)
-
-  -- the bound of document 01
-  pub reached_settle_bound : (o : Manner) (b : ℕ) → arrivals (settle o end b).ending
-      ≤ sum (end count) (λ m. ceiling (addressee_count end m))
-  reached_settle_bound o b = omega (arith, (ended o end b sound_end).few, few)
-
-  -- so at most 33,792
-  pub reached_settle_most : (o : Manner) (b : ℕ)
-      → arrivals (settle o (run on_states (started setup) items).now b).ending ≤ 33792
-  reached_settle_most o b = omega (arith, (ended o end b sound_end).few, reached_low)
-
-  -- a settle with at least 33,792 arrivals says done, without the trust rule
-  pub reached_settle_done : (o : Manner) (b : ℕ) → 33792 ≤ b
-      → SaysDone (settle o (run on_states (started setup) items).now b).ending
-  reached_settle_done o b l = (ended o end b sound_end).finishes (omega (arith, reached_low))

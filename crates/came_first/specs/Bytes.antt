@@ -1,20 +1,18 @@
 -- The byte is precedence, for every run, over states: of one sender's messages to one group those before a message are a
 -- prefix, so that one counter tells whether a message is among them (Counters of order), and the lowest group of a message
 -- is one of its groups. Precedence is a strict partial order. Assumes nothing.
-use Rattle.std.specs.Prelude.{◌≡◌, Bool, ◌↔◌, ◌≢◌, ℕ, ◌≤◌, ◌<◌, eqb}
+use Rattle.std.specs.Prelude.{◌≡◌, Bool, ◌≢◌, ℕ, ◌≤◌, eqb}
 use Rattle.std.proofs.Math.Path.{refl}
 use Rattle.std.proofs.Math.Bool.{true, false, not}
 use Rattle.std.proofs.Common.{arith}
 use Rattle.std.proofs.Math.Dec.{leb}
 use borrow.Author.Tests.{leb-true, le-leb, eqb-false, not-true}
-use Rattle.definitions.specs.General.{pick, bit}
-use Rattle.definitions.specs.World.{count, sender, mask, State}
+use Rattle.definitions.specs.General.{pick}
+use Rattle.definitions.specs.World.{count, State}
 use Rattle.definitions.specs.History.{Before, Run}
-use Rattle.definitions.specs.Words.{lowest_group, entry_on, precedes_byte}
+use Rattle.definitions.specs.Words.{entry_on, precedes_byte}
 use Rattle.base.specs.Tests.{both, both_l, both_r, both_i, and_false, pick_yes, pick_le, eqb_refl, is_other}
-use Rattle.base.specs.Search.{first_law}
 use Rattle.order.specs.Precedence.{precedes_before, before_precedes}
-use Rattle.order.specs.Counters.{stamp_le, counter_before}
 use Rattle.order.specs.Runs.{Whole}
 use Rattle.order.specs.Order.{lower}
 
@@ -26,14 +24,14 @@ byte_itself s x = rw (eqb_refl x, and_false)
 
 -- 1 exactly when the first's entry is at most the second's and the two differ
 module _ (s : State) (x m : ℕ) where
-  byte_of : entry_on s x x ≤ entry_on s x m → x ≢ m → precedes_byte s x m ≡ 1
+  pub byte_of : entry_on s x x ≤ entry_on s x m → x ≢ m → precedes_byte s x m ≡ 1
   unfolding precedes_byte
   byte_of l n =
       pick_yes 1 0
       (both_i (leb (entry_on s x x) (entry_on s x m)) (not (eqb x m)) (le-leb (entry_on s x x) (entry_on s x m) l)
       (is_other x m n))
 
-  byte_says : precedes_byte s x m ≡ 1 → (entry_on s x x ≤ entry_on s x m) × (x ≢ m)
+  pub byte_says : precedes_byte s x m ≡ 1 → (entry_on s x x ≤ entry_on s x m) × (x ≢ m)
   unfolding precedes_byte
   byte_says e =
       let at_most = leb (entry_on s x x) (entry_on s x m) in
@@ -54,21 +52,6 @@ module _ (s : State) (x m : ℕ) where
 
 -- ---- of a run
 module _ {r : Run State} (w : Whole r) where
-  -- 1 exactly when the first precedes the second
-  pub byte_exact : (x m : ℕ) → x < r.now count → m < r.now count → lowest_group r.now x < 8
-      → (precedes_byte r.now x m ≡ 1) ↔ Before r.seen x m
-  byte_exact x m hx hm low =
-      let s = r.now in
-      let g = lowest_group s x in (
-        (λ e.
-            let (l, n) = byte_says s x m e in
-            before_precedes r.seen (s count) w.formed x m
-            (counter_before w.meaning.counting x m g hx hm ((first_law 8 0 (bit (s (mask x)))).hit low) l) n),
-        (λ b.
-            let (k, n) = precedes_before r.seen (s count) w.formed x m b in
-            byte_of s x m (stamp_le w.meaning.counting m x g (s (sender x)) k) n),
-      )
-
   -- a message never precedes itself, since what precedes is lower
   pub never_itself : (x : ℕ) → ¬ Before r.seen x x
   never_itself x b = omega (arith, lower w x x b)

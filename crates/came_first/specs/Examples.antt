@@ -1,5 +1,5 @@
 -- A run that meets the hypotheses of `came_first`, computed on states and carried to any lent words: a call with several
--- pairs. Assumes nothing.
+-- pairs. What the theorem says of it stands in proofs/Examples. Assumes nothing.
 use Rattle.std.specs.Prelude.{◌≡◌, refl, true, false, List, [], ◌∷◌, ◌++◌, ℕ, ◌<◌, length, get_or}
 use Rattle.std.proofs.Common.{sym, ap, ◌∙◌, arith, lt-ltb}
 use Rattle.std.proofs.Math.Path.{ap₂}
@@ -10,8 +10,8 @@ use Rattle.definitions.specs.World.{count, State, put, has_group, encode, view}
 use Rattle.definitions.specs.Setup.{fresh, setup_bits, setup_group, made}
 use Rattle.definitions.specs.Machine.{with_tables, ready, lowest_short, lowest_awaited, short_of, awaited, deliverable, deliverable_at, merge, causal_one, causal_all, appended, raised_next, due, send_ok, send_oks, fifo_one, cascade, raised, stamped, numbered, posted, multicast, leave, mark, hold, arrival}
 use Rattle.definitions.specs.Steps.{read, good_mask, refusal, step}
-use Rattle.definitions.specs.History.{Before, Run, Item, tick, act, run}
-use Rattle.definitions.specs.Words.{making_refusal, precedes_byte, first_of, second_of, good_lengths, all_named, precedes_refusal, precedes_bytes, different, precedes_reply, on_words, started_words}
+use Rattle.definitions.specs.History.{Run, Item, tick, act, run}
+use Rattle.definitions.specs.Words.{making_refusal, precedes_byte, good_lengths, all_named, precedes_refusal, precedes_bytes, different, precedes_reply, on_words, started_words}
 use Rattle.definitions.specs.CameFirst.{Says}
 use Rattle.world.specs.SoundLaws.{Sound}
 use Rattle.world.specs.Items.{multicasting, three, until_overtaken}
@@ -23,7 +23,6 @@ use Rattle.carried.specs.Calls.{making_carried, view_agree, sound_world}
 use Rattle.carried.specs.Carried.{words_after}
 use Rattle.came_first.specs.Masks.{reached_masked, lowest_there}
 use Rattle.came_first.specs.Words.{byte_left, byte_read}
-use Rattle.came_first.specs.Theorem.{came_first}
 use Rattle.came_first.specs.Worlds.{three_taken}
 
 -- ---- no pair, 256 pairs; 257, an odd number of words, another number of answers
@@ -55,14 +54,14 @@ asked w h x m hx hm = record {
 
 -- ---- the third known run until message 2 has overtaken message 0, then message 3 of process 2: 0 precedes 2 by way of 1,
 -- and 2, which is in the FIFO log of process 2 and not delivered there causally, does not precede 3
-abbrev items : List Item
+abbrev pub items : List Item
 items = until_overtaken ++ (multicasting 2 1 ∷ [])
 
-abbrev end : State
+abbrev pub end : State
 end = (run on_states (started three) items).now
 
 -- 0 and 2, 2 and 0, 2 and 3, 0 and itself
-abbrev pairs : List ℕ
+abbrev pub pairs : List ℕ
 pairs = 0 ∷ 2 ∷ 2 ∷ 0 ∷ 2 ∷ 3 ∷ 0 ∷ 0 ∷ []
 
 computed : (end count ≡ 4)
@@ -82,19 +81,19 @@ sound_end = reached_sound three items three_taken
 
 -- as a caller has it, over any lent words and any four answers
 module _ (w answers : List ℕ) (long : length w ≡ 20480) (four : length answers ≡ 4) where
-  abbrev r : Run (List ℕ)
+  abbrev pub r : Run (List ℕ)
   r = run on_words (started_words w three) items
 
-  made_taken : making_refusal w three ≡ 0
+  pub made_taken : making_refusal w three ≡ 0
   made_taken = making_carried w three long ∙ three_taken
 
-  now_is : r.now ≡ encode end
+  pub now_is : r.now ≡ encode end
   now_is = words_after w three made_taken items
 
   count_read : view (encode end) count ≡ 4
   count_read = sym (same (view_agree end sound_end) count tt) ∙ computed.0
 
-  taken : precedes_refusal (encode end) pairs answers ≡ 0
+  pub taken : precedes_refusal (encode end) pairs answers ≡ 0
   unfolding precedes_refusal good_lengths all_named every
   taken =
       sound_world end sound_end _
@@ -121,24 +120,3 @@ module _ (w answers : List ℕ) (long : length w ≡ 20480) (four : length answe
   pub number_is : precedes_reply r.now pairs answers ≡ gives 3
   unfolding precedes_reply different
   number_is = rw (now_is, taken, count_read, ← computed.0) (ap gives computed.5)
-
-  -- so by the theorem
-  said : (i : ℕ) → i < 4
-      → Says r.now (first_of pairs i) (second_of pairs i) (get_or (1 ∷ 0 ∷ 0 ∷ 0 ∷ []) i 0)
-  said i l = record {
-    pairs = pairs;
-    answers = answers;
-    allowed = rw now_is taken;
-    place = i;
-    inside = omega (arith, four);
-    first = refl;
-    second = refl;
-    byte = ap (λ (bytes : List ℕ). get_or bytes i 0) bytes_are;
-  }
-
-  pub two_after_zero : Before r.seen 0 2
-  two_after_zero = ((came_first.reached w three items made_taken).exact 0 2 1 (said 0 (omega arith))).0 refl
-
-  pub three_not_after_two : ¬ Before r.seen 2 3
-  three_not_after_two b =
-      omega (arith, ((came_first.reached w three items made_taken).exact 2 3 0 (said 2 (omega arith))).1 b)

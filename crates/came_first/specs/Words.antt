@@ -1,25 +1,20 @@
 -- The bytes on lent words: what a call leaves for a pair is the byte of the state that is read off them, which is a sound
--- world with both messages; so after a list of items it is precedence. Assumes nothing.
-use Rattle.std.specs.Prelude.{◌≡◌, true, not, List, ◌↔◌, ℕ, ◌+◌, ◌*◌, ◌<◌, leb, eqb, length, get_or}
+-- world with both messages; that after a list of items it is precedence stands in proofs/Words. Assumes nothing.
+use Rattle.std.specs.Prelude.{◌≡◌, true, not, List, ℕ, ◌+◌, ◌*◌, ◌<◌, leb, eqb, length, get_or}
 use Rattle.std.proofs.Common.{sym, ◌∙◌, arith}
 use Rattle.std.proofs.Math.Path.{ap₂}
 use Rattle.definitions.specs.General.{pick, first_from, bit}
 use Rattle.definitions.specs.World.{count, sender, mask, stamp, State, encode, view}
-use Rattle.definitions.specs.History.{Before, Run}
 use Rattle.definitions.specs.Words.{lowest_group, entry_on, precedes_byte, first_of, second_of, good_lengths, all_named, precedes_refusal, precedes_bytes}
-use Rattle.definitions.specs.CameFirst.{Says, Exact}
+use Rattle.definitions.specs.CameFirst.{Says}
 use Rattle.base.specs.Tests.{both}
 use Rattle.base.specs.Tabulate.{get_d_tabulate}
 use Rattle.base.specs.Refusals.{needs_none}
 use Rattle.world.specs.SoundLaws.{Sound, count_high}
 use Rattle.world.specs.Pairs.{two_each, named_word, bytes_left}
 use Rattle.keeps.specs.Keeps.{world_taken}
-use Rattle.order.specs.Runs.{Whole}
 use Rattle.carried.specs.Same.{Agree, same}
 use Rattle.carried.specs.Calls.{view_agree}
-use Rattle.carried.specs.Carried.{written}
-use Rattle.came_first.specs.Masks.{Masked, lowest_there}
-use Rattle.came_first.specs.Bytes.{byte_exact, never_itself, before_chain}
 
 -- ---- of any lent words
 -- what an allowed call leaves, for each pair
@@ -72,22 +67,3 @@ module _ (s : State) (h : Sound s) (x m : ℕ) (hx : x < s count) (hm : m < s co
   unfolding precedes_byte
   byte_read =
       ap₂ (λ (u v : ℕ). pick {A = ℕ} (both (leb u v) (not (eqb x m))) 1 0) (entry_read x hx) (entry_read m hm)
-
--- ---- on the words of a run
-module _ (r : Run State) (w : Whole r) (masked : Masked r.now) where
-  -- a call's byte is precedence
-  exact_said : (x m b : ℕ) → Says (encode r.now) x m b → (b ≡ 1) ↔ Before r.seen x m
-  exact_said x m b y =
-      let a = says_asked y in
-      let e = same (view_agree r.now w.sound) count tt in
-      let hx : x < r.now count = omega (arith, a.first_there) in
-      let hm : m < r.now count = omega (arith, a.second_there) in
-      let low = lowest_there r.now w.sound masked x hx in
-      rw (← (byte_read r.now w.sound x m hx hm low ∙ a.is_byte)) (byte_exact w x m hx hm low)
-
-  pub exact_written : Exact (written r)
-  exact_written = record {
-    exact = exact_said;
-    never = never_itself w;
-    chain = before_chain w;
-  }

@@ -1,4 +1,5 @@
 // The answers of the calls, as enums; specs/Answers says what each case means.
+#![tactic(auto)]
 
 // The refusals of documents 01 and 02, each named by what was wrong.
 #[derive(Drop)]

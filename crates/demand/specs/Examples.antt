@@ -9,19 +9,13 @@ use Rattle.definitions.specs.World.{size, group, trust, up, fifo_length, causal_
 use Rattle.definitions.specs.Setup.{fresh, setup_bits, setup_group, good_setup, setup_refusal, made}
 use Rattle.definitions.specs.Machine.{with_tables, ready, lowest_short, lowest_awaited, short_of, awaited, deliverable, deliverable_at, merge, causal_one, causal_all, appended, raised_next, due, send_ok, send_oks, fifo_one, cascade, raised, stamped, numbered, posted, multicast, leave, mark, hold, arrival, trust_set, crash}
 use Rattle.definitions.specs.Steps.{read, good_mask, is_up, refusal, step}
-use Rattle.definitions.specs.Settle.{moves, receiver, origin, kind, movable, letter_of, lowest, lowest_first, Manner, settle_from}
+use Rattle.definitions.specs.Settle.{moves, receiver, origin, kind, movable, letter_of, lowest, lowest_first, settle_from}
 use Rattle.definitions.specs.History.{Event, sent, got, here, there, same, carried, chain, Before, casts, deliveries, gained, Run, Item, given, tick, act, run, names, InForce, AllAlong, TrustRule}
-use Rattle.definitions.specs.Words.{making_refusal, settled_words, on_words, started_words}
-use Rattle.definitions.specs.Demand.{Agreed as AgreedWords}
+use Rattle.definitions.specs.Words.{making_refusal}
 use Rattle.base.specs.Tests.{clash, at_or_off}
 use Rattle.world.specs.Items.{multicasting, arriving, three, until_overtaken}
 use Rattle.world.specs.Runs.{on_states, started}
-use Rattle.keeps.specs.Keeps.{fresh_sound}
-use Rattle.agreement.specs.Agreement.{Agreed}
-use Rattle.carried.specs.Carried.{start_carried}
-use Rattle.demand.specs.States.{settled, demand_3_states}
-use Rattle.demand.specs.Words.{rule_written}
-use Rattle.demand.specs.Theorem.{demand_3}
+use Rattle.demand.specs.States.{settled}
 
 -- ---- the third known run, until message 2's letters have arrived: what it has seen
 abbrev seen_so_far : List Event
@@ -88,11 +82,11 @@ unfolding ℕ_discrete every some first_from absent chosen loop bit with without
 overtaken_delivered = refl
 
 -- ---- two processes of one group: 0 multicasts, its letter reaches 1, 0 crashes, and 1 trusts only itself
-abbrev pair : List ℕ
+abbrev pub pair : List ℕ
 pair = 0 ∷ 2 ∷ 0 ∷ 0 ∷ 0 ∷ 0 ∷ 0 ∷ 0 ∷ []
 
 -- the steps
-abbrev crashing : List Item
+abbrev pub crashing : List Item
 crashing =
     multicasting 0 1
     ∷ arriving 0 0 0 1
@@ -164,11 +158,6 @@ crash_rule = record {
     trusts : (s : State) → Both s → InForce (is_up r₄.now) s
     trusts = both_trust (is_up r₄.now) refl
 
--- so after either settle with 33,792 arrivals what one process has FIFO-delivered every live addressee has
-pub crash_agreed : (o : Manner) → Agreed (settled o (run on_states (started pair) crashing) 33792).world.now
-unfolding setup_refusal good_setup setup_bits setup_group every
-crash_agreed o = (demand_3_states pair crashing refl).agreed crash_rule o 33792 (omega arith)
-
 -- and the live process has: its own OK arrives in the settle, and the message of the process that crashed is
 -- in both its logs
 abbrev survived : State → Bool
@@ -190,18 +179,6 @@ crash_delivered = refl
 -- ---- the second run over any lent words, as a caller has it
 module _ (w : List ℕ) (long : length w ≡ 20480) where
   -- the setup record is taken
-  pair_taken : making_refusal w pair ≡ 0
+  pub pair_taken : making_refusal w pair ≡ 0
   unfolding making_refusal setup_refusal good_setup setup_bits setup_group every
   pair_taken = rw (eq-eqb (length w) 20480 long)
-
-  -- the trust rule holds
-  pub crash_rule_words : TrustRule on_words (started_words w pair) crashing
-  unfolding setup_refusal good_setup setup_bits setup_group every
-  crash_rule_words =
-      rw (start_carried w pair pair_taken)
-      (rule_written (started pair) crashing (fresh_sound pair refl) crash_rule)
-
-  -- so the FIFO logs agree after either settle
-  pub crash_agreed_words : (o : Manner)
-      → AgreedWords (settled_words o (run on_words (started_words w pair) crashing).now 33792)
-  crash_agreed_words o = ((demand_3 w pair crashing pair_taken).settles crash_rule_words o 33792 (omega arith)).1

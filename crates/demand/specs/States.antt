@@ -6,7 +6,7 @@ use Rattle.std.specs.Prelude.{◌≡◌, refl, Bool, true, List, ℕ, ◌+◌, �
 use Rattle.std.proofs.Common.{sym, ap, arith}
 use Rattle.std.proofs.Math.Path.{subst, fun_ext}
 use Rattle.definitions.specs.General.{bit}
-use Rattle.definitions.specs.World.{size, trust, up, State}
+use Rattle.definitions.specs.World.{State}
 use Rattle.definitions.specs.Setup.{setup_refusal}
 use Rattle.definitions.specs.Steps.{arrives, is_up, step}
 use Rattle.definitions.specs.Settle.{nothing, Settled, Manner, choice, settle_from}
@@ -21,7 +21,8 @@ use Rattle.order.specs.Order.{reached}
 use Rattle.agreement.specs.Runs.{live_started, During, arrival_during, along_ends, live_run}
 use Rattle.agreement.specs.Agreement.{Calm, Agreed, agrees}
 use Rattle.bound.specs.Potential.{potential}
-use Rattle.bound.specs.Settle.{arrivals, SaysDone, Ended, settle_ends, moved_falls, reached_low, reached_settle_most, reached_settle_done}
+use Rattle.bound.specs.Settle.{arrivals, SaysDone, Ended, settle_ends, moved_falls}
+use Rattle.bound.proofs.Settle.{reached_low, reached_settle_most, reached_settle_done}
 use Rattle.carried.specs.Carried.{settle_now}
 
 -- ---- the settle of a run, with its answer

@@ -1,12 +1,12 @@
 -- What the cascade at p leaves as it was, and what each of its parts writes. The causal deliveries write p's
 -- causal log, del and counters; a FIFO delivery besides these p's FIFO log, next of the sender, and OKs from
 -- p. Assumes nothing.
-use Rattle.std.specs.Prelude.{◌≡◌, refl, Bool, true, false, ◌&&◌, ◌≢◌, ℕ, zero, suc, ◌+◌, ◌-◌, ◌≤◌, ◌<◌, max, eqb}
+use Rattle.std.specs.Prelude.{◌≡◌, refl, Bool, true, false, ◌&&◌, ◌≢◌, ℕ, zero, suc, ◌+◌, ◌≤◌, ◌<◌, max, eqb}
 use Rattle.std.proofs.Common.{sym, ap, ◌∙◌, subst₂, not-suc-le-zero, arith, ne_eqb, eq-eqb, eqb-true}
 use Rattle.std.proofs.Math.Path.{ap₂}
 use Rattle.std.proofs.Math.Decide.{ℕ_discrete}
 use Rattle.definitions.specs.General.{pick, bit, mask_of}
-use Rattle.definitions.specs.World.{Cell, size, count, group, counter, sequence, next, delivered, fifo_length, causal_length, held, fifo, causal, sender, stamp, number, flight, State, put}
+use Rattle.definitions.specs.World.{Cell, count, group, counter, sequence, next, delivered, fifo_length, causal_length, held, fifo, causal, sender, stamp, number, flight, State, put}
 use Rattle.definitions.specs.Machine.{with_tables, addressees, merge, causal_one, causal_all, appended, raised_next, due, send_ok, send_oks, fifo_one, cascade}
 use Rattle.base.specs.Tests.{pick_no, pick_yes, both, both_l, both_r, clash, eqb_refl, at_or_off}
 use Rattle.world.specs.Layout.{put_same, put_at}

@@ -1,4 +1,6 @@
 // The index of a world, 112 numbers lent beside its words: where its parts stand, and the addressees of a message.
+#![tactic(auto)]
+
 ghost use Rattle.std.specs.Prelude.{◌≡◌, ◌<◌, ◌^◌, length, get_or};
 
 // The addressees of message m stand at m; the set of the messages of q at OWN + q.

@@ -16,7 +16,7 @@ use Rattle.world.specs.SettleLaws.{settle}
 use Rattle.keeps.specs.Keeps.{fresh_sound, after_sound, settle_sound}
 use Rattle.carried.specs.Calls.{view_agree, refusal_carried, step_carried, making_carried, made_carried, log_carried}
 use Rattle.carried.specs.Carried.{settle_carried, reply_carried}
-use Rattle.known.specs.Runs.{Line, takes, settles, shows, Row, plays, checks, same_list, same_flag, same_ending, lines_pass, row_passes, all_pass, table, known_runs}
+use Rattle.known.specs.Runs.{Line, takes, settles, shows, Row, plays, checks, same_list, same_flag, same_ending, lines_pass, row_passes, all_pass}
 
 -- ---- what a row says of words
 abbrev pub LinesHold : List ℕ → List Line → Type 0
@@ -109,7 +109,7 @@ row_carried w l (plays setup n ls) e =
     }
 row_carried w l (checks records n) e = eqb-true (check_of (block 0 records)) n e
 
-table_carried : (w : List ℕ) → length w ≡ 20480 → (rs : List Row) → all_pass rs ≡ true → TableHolds w rs
+pub table_carried : (w : List ℕ) → length w ≡ 20480 → (rs : List Row) → all_pass rs ≡ true → TableHolds w rs
 unfolding all_pass
 table_carried w l [] e = tt
 table_carried w l (r ∷ rs) e = (
@@ -117,7 +117,3 @@ table_carried w l (r ∷ rs) e = (
   table_carried w l rs
       (both_r (row_passes r) (all_pass rs) e),
 )
-
--- The known runs, on any lent words of the right length.
-pub known_runs_words : (w : List ℕ) → length w ≡ 20480 → TableHolds w table
-known_runs_words w l = table_carried w l table known_runs

@@ -23,7 +23,8 @@ use Rattle.order.specs.Order.{reached}
 use Rattle.agreement.specs.Turns.{Live}
 use Rattle.agreement.specs.Runs.{live_started, live_run}
 use Rattle.agreement.specs.Ends.{settled_by, along_none, same_ground, same_messages}
-use Rattle.bound.specs.Settle.{SaysDone, arrivals, reached_settle_done}
+use Rattle.bound.specs.Settle.{SaysDone, arrivals}
+use Rattle.bound.proofs.Settle.{reached_settle_done}
 use Rattle.carried.specs.Calls.{log_carried, listed_in, in_listed}
 use Rattle.carried.specs.Carried.{settle_now, settled_sound, settled_carried}
 

@@ -2,6 +2,4 @@ pub mod Served
 pub mod Turns
 pub mod Words
 pub mod Alike
-pub mod Theorem
-pub mod Uses
 pub mod Examples

@@ -1,45 +1,36 @@
 -- Runs that meet the hypotheses of `nothing_to_come`, computed on states and carried to any lent words: a process multicasts
 -- and crashes, and its letters still arrive, those to itself stay; a settle with a smaller budget is stopped before them;
 -- and the letter is lost with its sender. Assumes nothing.
-use Rattle.std.specs.Prelude.{◌≡◌, true, false, List, [], ◌∷◌, ◌++◌, ℕ, length}
+use Rattle.std.specs.Prelude.{◌≡◌, true, List, [], ◌∷◌, ℕ}
 use Rattle.std.proofs.Math.Path.{refl}
-use Rattle.std.proofs.Common.{ap, ◌∙◌, arith}
 use Rattle.std.proofs.Math.Decide.{ℕ_discrete}
-use Rattle.definitions.specs.General.{gives, every, some, first_from, absent, chosen, loop, bit, with, without, mask_of, only}
-use Rattle.definitions.specs.World.{up, flight, State, encode, put, view, has_group}
+use Rattle.definitions.specs.General.{every, some, first_from, absent, chosen, loop, bit, with, without, mask_of, only}
+use Rattle.definitions.specs.World.{up, State, put, has_group}
 use Rattle.definitions.specs.Setup.{fresh, setup_bits, setup_group, good_setup, setup_refusal, made}
 use Rattle.definitions.specs.Machine.{with_tables, ready, lowest_short, lowest_awaited, short_of, awaited, deliverable, deliverable_at, merge, causal_one, causal_all, appended, raised_next, due, send_ok, send_oks, fifo_one, cascade, raised, stamped, numbered, posted, multicast, leave, mark, hold, arrival, trust_set, crash}
 use Rattle.definitions.specs.Steps.{read, good_mask, in_flight, refusal, step}
 use Rattle.definitions.specs.Settle.{moves, receiver, origin, kind, movable, letter_of, lowest, lowest_first, done, stopped, settle_from}
-use Rattle.definitions.specs.History.{Item, given, settling, tick, act, run}
-use Rattle.definitions.specs.Words.{making_refusal, step_refusal, settled_words, settle_reply, on_words, started_words}
-use Rattle.definitions.specs.NothingToCome.{SomeToCome}
-use Rattle.world.specs.Layout.{get_encode}
-use Rattle.world.specs.SoundLaws.{Sound}
+use Rattle.definitions.specs.History.{Item, given, tick, act, run}
 use Rattle.world.specs.SettleLaws.{settle}
 use Rattle.world.specs.Runs.{on_states, started}
-use Rattle.keeps.specs.Keeps.{reached_sound}
-use Rattle.carried.specs.Calls.{making_carried, refusal_carried}
-use Rattle.carried.specs.Carried.{settle_carried, reply_carried, words_after}
-use Rattle.nothing_to_come.specs.Theorem.{nothing_to_come}
 
 -- ---- process 0 of two multicasts to both groups and crashes
-abbrev apart : List ℕ
+abbrev pub apart : List ℕ
 apart = 0 ∷ 2 ∷ 8 ∷ 0 ∷ 0 ∷ 0 ∷ 0 ∷ 0 ∷ []
 
-abbrev dead : List Item
+abbrev pub dead : List Item
 dead = given (1 ∷ 0 ∷ 3 ∷ 0 ∷ 0 ∷ 0 ∷ 0 ∷ 0 ∷ []) ∷ given (5 ∷ 0 ∷ 0 ∷ 0 ∷ 0 ∷ 0 ∷ 0 ∷ 0 ∷ []) ∷ []
 
 -- the first letter to process 1 is lost
-abbrev losing : List ℕ
+abbrev pub losing : List ℕ
 losing = 3 ∷ 0 ∷ 0 ∷ 0 ∷ 1 ∷ 0 ∷ 0 ∷ 0 ∷ []
 
-abbrev end : State
+abbrev pub end : State
 end = (run on_states (started apart) dead).now
 
 -- computed: the setup record is taken; a settle makes two arrivals, and with one it is stopped; the letter to process 0
 -- stays in flight; the loss is taken
-computed : (setup_refusal apart ≡ 0)
+pub computed : (setup_refusal apart ≡ 0)
     × ((settle lowest_first end 33792).ending ≡ done 2)
     × ((settle lowest_first end 1).ending ≡ stopped 1)
     × (in_flight (settle lowest_first end 33792).world 0 0 0 0 ≡ true)
@@ -52,57 +43,3 @@ unfolding ℕ_discrete every some first_from absent chosen loop bit with without
     arrival trust_set crash read has_group good_mask refusal step tick act run moves receiver origin kind movable letter_of
     lowest settle_from settle
 computed = (refl, refl, refl, refl, refl, refl, refl)
-
-sound_end : Sound (run on_states (started apart) dead).now
-sound_end = reached_sound apart dead computed.0
-
--- ---- as a caller has it, over any lent words
-module _ (w : List ℕ) (long : length w ≡ 20480) where
-  made_taken : making_refusal w apart ≡ 0
-  made_taken = making_carried w apart long ∙ computed.0
-
-  abbrev now : List ℕ
-  now = (run on_words (started_words w apart) dead).now
-
-  now_is : (run on_words (started_words w apart) dead).now ≡ encode (run on_states (started apart) dead).now
-  now_is = words_after w apart made_taken dead
-
-  -- done after both
-  pub dead_done : settle_reply lowest_first (run on_words (started_words w apart) dead).now 33792 ≡ gives (done 2)
-  dead_done =
-      ap (λ (u : List ℕ). settle_reply lowest_first u 33792) now_is ∙ reply_carried lowest_first end sound_end 33792
-      ∙ ap gives computed.1
-
-  -- so nothing is left to come
-  pub dead_nothing : SomeToCome (settled_words lowest_first (run on_words (started_words w apart) dead).now 33792) → ⊥
-  dead_nothing = nothing_to_come.after_done lowest_first now 33792 2 dead_done
-
-  -- though a letter is in flight, to process 0, which is down
-  pub dead_letter :
-      in_flight (view (settled_words lowest_first (run on_words (started_words w apart) dead).now 33792)) 0 0 0 0 ≡ true
-  dead_letter =
-      ap (λ (u : List ℕ). in_flight (view u) 0 0 0 0)
-      (ap (λ (u : List ℕ). settled_words lowest_first u 33792) now_is ∙ settle_carried lowest_first end sound_end 33792)
-      ∙ ap (λ (x : ℕ). bit x 0)
-      (get_encode (settle lowest_first end 33792).world (flight 0 0 0) (omega arith, omega arith, omega arith))
-      ∙ computed.3
-
-  -- stopped before the second
-  pub dead_stopped : settle_reply lowest_first (run on_words (started_words w apart) dead).now 1 ≡ gives (stopped 1)
-  dead_stopped =
-      ap (λ (u : List ℕ). settle_reply lowest_first u 1) now_is ∙ reply_carried lowest_first end sound_end 1
-      ∙ ap gives computed.2
-
-  pub dead_remains : SomeToCome (settled_words lowest_first (run on_words (started_words w apart) dead).now 1)
-  dead_remains = (nothing_to_come.after_stopped lowest_first now 1 1 dead_stopped).1
-
-  -- lost, and not in flight after a settle
-  lost_taken : step_refusal (run on_words (started_words w apart) dead).now losing ≡ 0
-  lost_taken = ap (λ (u : List ℕ). step_refusal u losing) now_is ∙ refusal_carried end sound_end losing ∙ computed.6
-
-  pub dead_lost : in_flight
-      (view (run on_words (started_words w apart) (dead ++ (given losing ∷ settling lowest_first 33792 ∷ []))).now) 0 0 0 1
-      ≡ false
-  unfolding read every
-  dead_lost =
-      nothing_to_come.lost_gone w apart losing dead (settling lowest_first 33792 ∷ []) 0 0 0 1 made_taken refl lost_taken

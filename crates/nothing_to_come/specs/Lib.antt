@@ -1,5 +1,3 @@
 pub mod Left
 pub mod Lost
-pub mod Theorem
-pub mod Uses
 pub mod Examples

@@ -22,7 +22,8 @@ use Rattle.keeps.specs.Keeps.{reached_sound}
 use Rattle.effects.specs.Arrival.{Fly}
 use Rattle.effects.specs.Runs.{run_append}
 use Rattle.bound.specs.Once.{flies_once}
-use Rattle.bound.specs.Settle.{arrivals, reached_settle_done}
+use Rattle.bound.specs.Settle.{arrivals}
+use Rattle.bound.proofs.Settle.{reached_settle_done}
 use Rattle.carried.specs.Calls.{refusal_carried}
 use Rattle.carried.specs.Carried.{reply_carried, setup_taken, words_after}
 

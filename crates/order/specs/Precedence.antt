@@ -39,18 +39,24 @@ old_cast (there a) = a
 
 -- messages that were multicast are below n, and each is multicast at one place
 pub cast_low : (es : List Event) {n i p m : ℕ} → Formed n es → At es i (sent p m) → m < n
+cast_low [] _ a = elim a [ ]
 cast_low (got r k ∷ es) f (there a) = cast_low es f a
 cast_low (sent r k ∷ es) f (here h) = omega (arith, f.0)
 cast_low (sent r k ∷ es) f (there a) = omega (arith, f.0, cast_low es f.1 a)
 
 -- a message is multicast at one place
+cast_once_at : (es : List Event) (n : ℕ) {i j p q m m' : ℕ} → Formed n es → At es i (sent p m) → At es j (sent q m')
+    → m ≡ m' → i ≡ j
+cast_once_at [] _ _ a _ _ = elim a [ ]
+cast_once_at (got r k ∷ es) n f (there a) (there b) e = cast_once_at es n f a b e
+cast_once_at (sent r k ∷ es) n f (here h) (here l) e = omega arith
+cast_once_at (sent r k ∷ es) n f (here h) (there b) e = absurd (omega (arith, cast_low es f.1 b))
+cast_once_at (sent r k ∷ es) n f (there a) (here l) e = absurd (omega (arith, cast_low es f.1 a))
+cast_once_at (sent r k ∷ es) n f (there a) (there b) e = cast_once_at es k f.1 a b e
+
 cast_once : (es : List Event) (n : ℕ) {i j p q m : ℕ} → Formed n es → At es i (sent p m) → At es j (sent q m)
     → i ≡ j
-cast_once (got r k ∷ es) n f (there a) (there b) = cast_once es n f a b
-cast_once (sent r k ∷ es) n f (here h) (here l) = omega arith
-cast_once (sent r k ∷ es) n f (here h) (there b) = absurd (omega (arith, cast_low es f.1 b))
-cast_once (sent r k ∷ es) n f (there a) (here l) = absurd (omega (arith, cast_low es f.1 a))
-cast_once (sent r k ∷ es) n f (there a) (there b) = cast_once es k f.1 a b
+cast_once es n f a b = cast_once_at es n f a b refl
 
 -- every message below n was multicast, by some process
 pub data Cast (es : List Event) (m : ℕ) : Type 0 where
@@ -89,6 +95,7 @@ at_older e es i x h = pick_no _ (known_at es i x) (ne_eqb i (length es) (omega a
 known_past : {es : List Event} {i : ℕ} {e : Event} (x : ℕ) → At es i e → known_at es i x ≡ true
     → (knowledge es).past (who e) x ≡ true
 unfolding knowledge
+known_past {es = []} _ a _ = elim a [ ]
 known_past {es = e ∷ es} {i} x (here h) z = sym (at_newest e es i x h) ∙ z
 known_past {es = d ∷ es} {i} {e} x (there a) z =
     past_grows d (knowledge es) (who e) x (known_past x a (sym (at_older d es i x (at_low a)) ∙ z))
@@ -96,6 +103,7 @@ known_past {es = d ∷ es} {i} {e} x (there a) z =
 -- after its multicast, a message is known
 known_own : {es : List Event} {i p x : ℕ} → At es i (sent p x) → known_at es i x ≡ true
 unfolding knowledge
+known_own {es = []} a = elim a [ ]
 known_own {es = e ∷ es} {i} {p} {x} (here h) =
     at_newest e es i x h
     ∙ either_l (both (eqb p p) (eqb x x)) ((knowledge es).past p x)
@@ -106,6 +114,7 @@ known_own {es = d ∷ es} {i} {p} {x} (there a) = at_older d es i x (at_low a) �
 known_before : (es : List Event) (n : ℕ) {i p m : ℕ} (x : ℕ) → Formed n es → At es i (sent p m)
     → known_at es i x ≡ true → (knowledge es).before m x ≡ true
 unfolding knowledge
+known_before [] _ _ _ a _ = elim a [ ]
 known_before (got r k ∷ es) n {i} x f (there b) z =
     known_before es n x f b (sym (at_older (got r k) es i x (at_low b)) ∙ z)
 known_before (sent r k ∷ es) n {i} x f (here h) z =
@@ -126,6 +135,7 @@ precedes_low (chain a b) = omega (arith, precedes_low a, precedes_low b)
 known_same : (es : List Event) {i j : ℕ} {d e : Event} (x : ℕ) → i < j → At es i d → At es j e → who d ≡ who e
     → known_at es i x ≡ true → known_at es j x ≡ true
 unfolding knowledge
+known_same [] _ _ a _ _ _ = elim a [ ]
 known_same (h ∷ es) x l (here q) (here k) w z = absurd (omega arith)
 known_same (h ∷ es) x l (here q) (there b) w z = absurd (omega (arith, at_low b))
 known_same (h ∷ es) {i} {j} x l (there a) (here k) w z =
@@ -138,6 +148,7 @@ known_same (h ∷ es) {i} {j} x l (there a) (there b) w z =
 known_carried : (es : List Event) (n : ℕ) {i j p q m : ℕ} (x : ℕ) → Formed n es → i < j → At es i (sent p m)
     → At es j (got q m) → known_at es i x ≡ true → known_at es j x ≡ true
 unfolding knowledge
+known_carried [] _ _ _ _ a _ _ = elim a [ ]
 known_carried (sent r k ∷ es) n x f l (here q) (there b) z = absurd (omega (arith, at_low b))
 known_carried (sent r k ∷ es) n {i} {j} x f l (there a) (there b) z =
     at_older (sent r k) es j x (at_low b)

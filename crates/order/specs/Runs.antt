@@ -15,7 +15,7 @@ use Rattle.world.specs.SoundLaws.{Sound}
 use Rattle.world.specs.StepLaws.{accepted_multicast, accepted_arrival, accepted_trust}
 use Rattle.world.specs.Runs.{on_states, started}
 use Rattle.keeps.specs.Keeps.{fresh_sound, step_sound}
-use Rattle.effects.specs.Views.{Messages, messages, Process, Scene, scene, Still, process as own}
+use Rattle.effects.specs.Views.{Messages, messages, Process, Scene, scene, Still}
 use Rattle.effects.specs.Arrival.{received_scene}
 use Rattle.effects.specs.Events.{gained_keeps, grown_none, gained_none, gained_one}
 use Rattle.effects.specs.Runs.{act_keeps, run_keeps}

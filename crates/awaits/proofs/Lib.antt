@@ -1,0 +1,5 @@
+pub mod Next
+pub mod Words
+pub mod Theorem
+pub mod Uses
+pub mod Examples
