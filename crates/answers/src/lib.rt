@@ -1,4 +1,6 @@
 // The numbers that document 01 gives to the answers, and that of the version.
+#![tactic(auto)]
+
 ghost use Rattle.std.specs.Prelude.{◌≡◌};
 ghost use Rattle.definitions.specs.Answers.{refusal_number, outcome_number, version};
 

@@ -1,6 +1,8 @@
 // The arrival of a letter of kind k for message m from q at p, in two parts: the letter and its mark, after which mostly
 // nothing follows; and the rest, a message that was not held held and answered, then the cascade. Who knows that p is
 // quiescent says so: then only message m can be ready. The place of a letter is 48 m + 16 k + q.
+#![tactic(auto)]
+
 ghost use Rattle.std.specs.Prelude.{true, false, ◌≡◌, ◌<◌, ◌≤◌, length};
 ghost use Rattle.definitions.specs.General.{every, pick};
 ghost use Rattle.bounds.specs.Bounds.{Bounds};

@@ -1,5 +1,7 @@
 // Whose message a message waits for: whether it waits at a process, the lowest process that falls short, its lowest message
 // that is awaited, and the answer of the deliverable test.
+#![tactic(auto)]
+
 ghost use Rattle.std.specs.Prelude.{◌&&◌, ◌≡◌, ◌+◌, ◌≤◌, ◌<◌, eqb, length, get_or};
 ghost use Rattle.definitions.specs.General.{absent, bit, gives};
 ghost use Rattle.definitions.specs.World.{sender, mask, stamp, view};

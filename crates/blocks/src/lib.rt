@@ -1,4 +1,6 @@
 // Whether every word of a process's block, and of a message's block, may stand there.
+#![tactic(auto)]
+
 ghost use Rattle.std.specs.Prelude.{◌≡◌, true, ◌+◌, ◌*◌, ◌≤◌, ◌<◌, length};
 ghost use Rattle.definitions.specs.World.{view};
 ghost use Rattle.sets.specs.Lowest.{Has};

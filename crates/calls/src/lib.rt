@@ -1,5 +1,7 @@
 // The calls that change a lent world, or show the change on a copy: each tests the world, which leaves its index,
 // and then does its work. None asks anything of its caller.
+#![tactic(auto)]
+
 ghost use Rattle.std.specs.Prelude.{◌≡◌, length};
 ghost use Rattle.definitions.specs.World.{view};
 ghost use Rattle.definitions.specs.Settle.{lowest_first, by_turns};

@@ -3,7 +3,6 @@
 -- counts down how many messages it lacks. Assumes nothing.
 use Rattle.std.specs.Prelude.{◌≡◌, refl, false, List, ℕ, suc, ◌+◌, ◌≤◌, ◌<◌, set}
 use Rattle.std.proofs.Common.{ap, ◌∙◌, arith}
-use Rattle.definitions.specs.General.{loop}
 use Rattle.definitions.specs.World.{count, next, fifo_length, causal_length, fifo, sender, addr, State, put, encode, view}
 use Rattle.definitions.specs.Machine.{with_tables, merge, causal_one, causal_all, ready, appended, raised_next, send_oks, fifo_one, cascade}
 use Rattle.world.specs.Layout.{Changes, put_same, put_at, set_encode, reads_cell}
@@ -11,7 +10,8 @@ use Rattle.logs.specs.Pushed.{pushed}
 use Rattle.bounds.specs.Bounds.{Bounds}
 use Rattle.bounds.specs.Run.{Run}
 use Rattle.causal.specs.Causal.{causal_bounds, causal_stands}
-use Rattle.sends.specs.Sends.{oks_keep, bounds_oks}
+use Rattle.sends.specs.Sends.{oks_keep}
+use Rattle.sends.proofs.Sends.{bounds_oks}
 
 -- ---- the parts of a FIFO delivery keep the bounds
 -- a message appended to the FIFO log

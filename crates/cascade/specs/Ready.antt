@@ -1,24 +1,23 @@
 -- The cascade by a set of the ready messages: the lowest of them is the definition's choice, and after a turn only what is
 -- ready of its sender can be another. The loop of the code beside the definition's. Assumes nothing.
-use Rattle.std.specs.Prelude.{◌≡◌, Bool, not, List, ◌≢◌, ℕ, ◌+◌, ◌-◌, ◌^◌, ◌≤◌, ◌<◌, ltb, eqb, get_or}
+use Rattle.std.specs.Prelude.{◌≡◌, Bool, not, List, ◌≢◌, ℕ, ◌+◌, ◌-◌, ◌^◌, ◌≤◌, ◌<◌, ltb, eqb}
 use Rattle.std.proofs.Math.Path.{refl, ap}
-use Rattle.std.proofs.Common.{sym, ap₂, ◌∙◌, true≢false, arith, eq-eqb, ne_eqb}
+use Rattle.std.proofs.Common.{sym, ap₂, ◌∙◌, arith, eq-eqb, ne_eqb}
 use Rattle.std.proofs.Math.Bool.{true, false}
 use Rattle.std.proofs.Math.Decide.{ℕ_discrete}
 use Rattle.base.specs.Tests.{both, both_l, both_r, either}
 use Rattle.definitions.specs.General.{bit, every, first_from, chosen}
 use Rattle.base.specs.Loop.{loop_stops}
 use Rattle.sets.specs.Lowest.{Has, lowest}
-use Rattle.sets.specs.Below.{lowest_below, lowest_passes, lowest_first, none_first}
+use Rattle.sets.specs.Below.{lowest_below, lowest_passes, none_first}
 use Rattle.bounds.specs.Bounds.{Bounds, bounds_state, bounds_words}
-use Rattle.bounds.specs.Run.{run_more}
-use Rattle.cascade.specs.Cascade.{kept_more, Cascading}
+use Rattle.cascade.specs.Cascade.{Cascading}
 use Rattle.index.specs.Index.{Index, Logs, is_from, index_state, index_words, logs_state, logs_words, new_room, outside_words, frame}
 use Rattle.sends.specs.Ready.{ready_law}
 use Rattle.world.specs.Layout.{reads_cell, Changes}
 use Rattle.definitions.specs.Machine.{in_turn, marked, ready, fifo_one, cascade}
 use Rattle.definitions.specs.World.{outside_fifo, size, count, held, fifo_length, sender, flight, State, encode, view}
-use Rattle.cascade.specs.Turn.{turn_count, turn_sender, turn_longer, turn_other}
+use Rattle.cascade.specs.Turn.{turn_count, turn_longer, turn_other}
 
 -- The set has the messages that are ready at p.
 abbrev pub Ready : State → ℕ → ℕ → Type 0
@@ -134,7 +133,7 @@ module _ (p n : ℕ) (s : State) (w x : List ℕ) (left sent : ℕ) (hp : p < 16
       outside_words w t g.run.words b p m hp ∙ out,
     )
 
-    going_spent : 0 < g.fuel
+    pub going_spent : 0 < g.fuel
     going_spent =
         let a = new_room t p m g.logs going_low out in
         omega (arith, g.full, g.run.kept.counted)
@@ -154,62 +153,6 @@ module _ (p n : ℕ) (s : State) (w x : List ℕ) (left sent : ℕ) (hp : p < 16
           turn_count t p m,
           turn_longer t p m,
         )
-
-    module _ (u y : List ℕ) (q next more rest new add : ℕ) (hq : q < 16) (eq : q ≡ view w (sender m))
-        (c : Changes w u (λ z. fifo_one z p m)) (z : Index (view u) y) (l : Logs (view u) p)
-        (told : (s : State) → w ≡ encode s
-        → Has new (λ k. both (is_from (frame s) (s (sender m)) k) (ready (fifo_one s p m) p k))
-        × ((k : ℕ) → k < 64 → bit add k ≡ false → fifo_one s p m (flight k 2 p) ≡ s (flight k 2 p)))
-        (er : (k : ℕ) → k < 64 → bit rest k ≡ both (bit left k) (not (bit (get_or y (64 + q) 0) k)))
-        (en : (k : ℕ) → bit next k ≡ either (bit rest k) (bit new k))
-        (es : (k : ℕ) → bit more k ≡ either (bit sent k) (bit add k)) where
-      hm : m < 64
-      hm = let a = going_low in omega (arith, b.counts)
-
-      abbrev t2 : State
-      t2 = fifo_one t p m
-
-      choice : m ≡ chosen (λ z. z count) (λ z. ready z p) (λ z. fifo_one z p) t
-      unfolding chosen
-      choice = em ∙ lowest_first left (t count) (ready t p) g.ready_are b.counts low some
-
-      after : Cascading p n s u (g.fuel - 1)
-      after =
-          run_more (λ z. z count) (λ z. ready z p) (λ z. fifo_one z p) (kept_more p n hp) g.run going_spent going_low choice c
-
-      own_are : Has (get_or y (64 + q) 0) (is_from (frame t) (t (sender m)))
-      own_are k h =
-          z.own q hq k h
-          ∙ ap₂ (λ (i j : ℕ). both (ltb k i) (eqb j q))
-          (reads_cell u count tt t2 (c t g.run.words) ∙ turn_count t p m)
-          (reads_cell u (sender k) h t2 (c t g.run.words) ∙ turn_sender t p m k)
-          ∙ ap (λ (j : ℕ). both (ltb k (t count)) (eqb (t (sender k)) j)) (eq ∙ reads_cell w (sender m) hm t g.run.words)
-
-      pub going_more : Going p n s u y next more
-      unfolding after run_more
-      going_more =
-          let e = c t g.run.words in
-          let a = going_spent in
-          let h2 = bounds_words u t2 e after.kept.bounds in
-          record {
-            fuel = g.fuel - 1;
-            run = after;
-            full = omega (arith, g.full, turn_longer t p m);
-            logs = logs_state u t2 e h2 p hp l;
-            index = index_state u t2 e h2 z;
-            ready_are = ready_more t p m left next new (get_or y (64 + q) 0) g.ready_are own_are (told t g.run.words).0
-                (λ k h. en k ∙ ap (λ (v : Bool). either v (bit new k)) (er k h));
-            unsent = λ k h v. (told t g.run.words).1 k h (no_r (bit sent k) (bit add k) (sym (es k) ∙ v))
-                ∙ g.unsent k h (no_l (bit sent k) (bit add k) (sym (es k) ∙ v));
-          }
-        where
-          no_l : (i j : Bool) → either i j ≡ false → i ≡ false
-          no_l true j v = v
-          no_l false j v = refl
-
-          no_r : (i j : Bool) → either i j ≡ false → j ≡ false
-          no_r true j v = absurd (true≢false v)
-          no_r false j v = v
 
   -- nothing is ready
   pub going_end : left ≡ 0

@@ -9,7 +9,7 @@ use Rattle.sets.specs.Lowest.{Has}
 use Rattle.index.specs.Index.{is_from, Logs, frame}
 use Rattle.sends.specs.Sends.{oks_keep as keep_oks}
 use Rattle.index.specs.Changes.{fifo_here}
-use Rattle.sends.specs.Oks.{oks_due, oks_ready}
+use Rattle.sends.proofs.Oks.{oks_due, oks_ready}
 use Rattle.definitions.specs.World.{size, count, group, next, held, fifo_length, sender, number, flight, State, put, outside_fifo}
 use Rattle.world.specs.Layout.{put_same, put_other}
 use Rattle.world.specs.Kept.{causal_all_keeps, oks_keep}

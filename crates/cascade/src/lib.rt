@@ -1,5 +1,7 @@
 // FIFO deliveries, and the cascade: while some message is ready, the lowest is delivered. The messages that are ready are
 // a set, made once; after a delivery only those of its sender can change.
+#![tactic(auto)]
+
 ghost use Rattle.std.specs.Prelude.{true, false, ◌&&◌, ◌≡◌, ℕ, ◌+◌, ◌≤◌, ◌<◌, length};
 ghost use Rattle.definitions.specs.General.{bit};
 ghost use Rattle.definitions.specs.World.{outside_fifo, State, encode, view, count, next, sender, flight};

@@ -3,7 +3,7 @@
 -- longer the FIFO log is. Assumes nothing.
 use Rattle.std.specs.Prelude.{◌≡◌, refl, List, ℕ, suc, ◌+◌, ◌-◌, ◌≤◌, ◌<◌}
 use Rattle.std.proofs.Common.{ap, ◌∙◌, arith}
-use Rattle.definitions.specs.General.{chosen, loop}
+use Rattle.definitions.specs.General.{chosen}
 use Rattle.definitions.specs.World.{Cell, fifo_length, causal_length, State, put}
 use Rattle.definitions.specs.Machine.{with_tables, merge, deliverable_at, causal_one, causal_all}
 use Rattle.base.specs.Loop.{loop_keeps}

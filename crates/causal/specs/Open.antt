@@ -3,25 +3,22 @@
 -- that the code has in hand. Assumes nothing.
 use Rattle.std.specs.Prelude.{◌≡◌, Bool, ℕ, ◌+◌, ◌-◌, ◌≤◌, ◌<◌, ltb, get_or, set, length}
 use Rattle.std.proofs.Math.Path.{refl, ap, subst}
-use Rattle.std.proofs.Common.{sym, ◌∙◌, arith, set-set, get_or-set_same}
+use Rattle.std.proofs.Common.{sym, ◌∙◌, arith, get_or-set_same}
 use Rattle.std.proofs.Math.Bool.{true, false}
 use mathlib.Core.List.{List}
 use Rattle.std.proofs.lemmas.List.{set-get_or}
 use borrow.Author.Tests.{ltb-true, lt-ltb}
-use Rattle.base.specs.Tests.{clash, both, both_l, both_r, both_i}
-use Rattle.definitions.specs.General.{bit, without, chosen}
-use Rattle.base.specs.Bits.{bit_zero}
+use Rattle.base.specs.Tests.{both, both_l, both_r, both_i}
+use Rattle.definitions.specs.General.{bit, chosen}
 use Rattle.base.specs.Search.{first_is, first_past}
 use Rattle.sets.specs.Lowest.{Has}
 use Rattle.bounds.specs.Bounds.{Bounds, bounds_state, bounds_words}
-use Rattle.bounds.specs.Run.{run_more, run_stop}
-use Rattle.causal.specs.Causal.{earliest, kept_more, Delivering}
+use Rattle.causal.specs.Causal.{earliest, Delivering}
 use Rattle.deliverable.specs.Tests.{deliverable_words}
 use Rattle.index.specs.Index.{Index, Logs, is_open, index_state, index_words, logs_state, logs_words, open_room, frame}
-use Rattle.index.specs.Changes.{index_causal, logs_causal}
-use Rattle.definitions.specs.World.{fifo_length, causal_length, fifo, State, put, encode, view, outside_causal}
-use Rattle.world.specs.Layout.{Changes, put_same, reads_cell}
-use Rattle.definitions.specs.Machine.{deliverable, deliverable_at, with_tables, merge, causal_one, causal_all}
+use Rattle.definitions.specs.World.{fifo_length, causal_length, fifo, State, encode, view, outside_causal}
+use Rattle.world.specs.Layout.{reads_cell}
+use Rattle.definitions.specs.Machine.{deliverable, deliverable_at, causal_all}
 
 -- r is the earliest place of p's FIFO log that can be delivered causally, or 64.
 pub record Earliest (s : State) (p r : ℕ) : Type 0 where
@@ -128,7 +125,7 @@ module _ (p n : ℕ) (s : State) (w x : List ℕ) (places : ℕ) (hp : p < 16) (
   b = g.run.kept.bounds
 
   -- the set in hand is that of the open places
-  stored : get_or (set x (96 + p) places) (96 + p) 0 ≡ places
+  pub stored : get_or (set x (96 + p) places) (96 + p) 0 ≡ places
   stored = get_or-set_same x (96 + p) places 0 (omega arith)
 
   pub going_open : Has places (is_open (frame (view w)) p)
@@ -141,7 +138,7 @@ module _ (p n : ℕ) (s : State) (w x : List ℕ) (places : ℕ) (hp : p < 16) (
 
   -- a place is delivered
   module _ {i : ℕ} (l : i < 64) (e : Earliest (view w) p i) where
-    own : Earliest t p i
+    pub own : Earliest t p i
     own = earliest_state w t p i g.run.words going_bounds hp (omega arith) e
 
     pub going_in : bit places i ≡ true
@@ -152,11 +149,11 @@ module _ (p n : ℕ) (s : State) (w x : List ℕ) (places : ℕ) (hp : p < 16) (
         (lt-ltb i (t (fifo_length p)) (own.hit l).0)
         (both_l (outside_causal t p (t (fifo p i))) (deliverable t p (t (fifo p i))) (own.hit l).1)
 
-    out : outside_causal t p (t (fifo p i)) ≡ true
+    pub out : outside_causal t p (t (fifo p i)) ≡ true
     unfolding deliverable_at
     out = both_l (outside_causal t p (t (fifo p i))) (deliverable t p (t (fifo p i))) (own.hit l).1
 
-    shorter : t (causal_length p) < t (fifo_length p)
+    pub shorter : t (causal_length p) < t (fifo_length p)
     shorter = open_room t p i g.logs (own.hit l).0 out
 
     pub going_room : view w (causal_length p) < 64
@@ -164,39 +161,6 @@ module _ (p n : ℕ) (s : State) (w x : List ℕ) (places : ℕ) (hp : p < 16) (
         let k = reads_cell w (causal_length p) hp t g.run.words in
         let m = shorter in
         omega (arith, b.fifo_lengths p hp, b.counts)
-
-    pub going_more : {u : List ℕ} {next : ℕ} → Changes w u (λ z. causal_one z p i) → next ≡ without places i
-        → Going p n s u x next
-    unfolding run_more causal_one merge with_tables put
-    going_more {u} {next} c en =
-        let f = (own.hit l).0 in
-        let m = shorter in
-        let k = put_same t (causal_length p) (causal_length p) (t (causal_length p) + 1) refl in
-        let q : 0 < g.left = omega (arith, g.full, g.run.kept.log) in
-        record {
-          left = g.left - 1;
-          run = run_more (λ z. z (fifo_length p)) (λ z. deliverable_at z p) (λ z. causal_one z p) (kept_more p n) g.run q f
-              (earliest_is t p i l own) c;
-          full = omega (arith, g.full, k);
-          logs = logs_causal t p i (set x (96 + p) places) next b g.index hp f g.logs was out;
-          index = subst (λ (y : List ℕ). Index (causal_one t p i) y) (set-set x (96 + p) places next)
-              (index_causal t p i (set x (96 + p) places) next b g.index hp f g.logs was);
-        }
-      where
-        was : next ≡ without (get_or (set x (96 + p) places) (96 + p) 0) i
-        was = en ∙ ap (λ (y : ℕ). without y i) (sym stored)
-
-  -- none can be delivered: the words and the index at the end
-  pub going_stop : Earliest (view w) p 64 → w ≡ encode (causal_all s p)
-  going_stop e =
-      run_stop (λ z. z (fifo_length p)) (λ z. deliverable_at z p) (λ z. causal_one z p) g.run
-      (earliest_past t p 64 (omega (arith, b.fifo_lengths p hp, b.counts))
-      (earliest_state w t p 64 g.run.words going_bounds hp (omega arith) e)) refl
-
-  pub going_end : places ≡ 0 → w ≡ encode (causal_all s p)
-  going_end e =
-      going_stop (earliest_none (view w) p (omega (arith, going_bounds.fifo_lengths p hp, going_bounds.counts))
-      (λ j l o. clash (going_open j l ∙ o) (ap (λ (y : ℕ). bit y j) e ∙ bit_zero j)))
 
   pub going_index : Index (view w) (set x (96 + p) places)
   going_index = index_words w t g.run.words b g.index

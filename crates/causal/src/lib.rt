@@ -1,4 +1,6 @@
 // The causal deliveries at a process by the open places of its FIFO log.
+#![tactic(auto)]
+
 ghost use Rattle.std.specs.Prelude.{◌≡◌, ◌+◌, ◌≤◌, ◌<◌, length};
 ghost use Rattle.definitions.specs.Machine.{causal_all};
 ghost use Rattle.index.specs.Index.{frame, Index, Logs, is_open};

@@ -1,4 +1,6 @@
 // The words of a world: the places of docs/LAYOUT.md, a word read, letters read and stored, and parts read and stored.
+#![tactic(auto)]
+
 ghost use Rattle.std.specs.Prelude.{◌≡◌, ◌+◌, ◌*◌, ◌≤◌, ◌<◌, length, take, drop, get_or, set, replicate};
 ghost use Rattle.base.specs.Tabulate.{splice};
 

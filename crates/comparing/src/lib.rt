@@ -1,5 +1,7 @@
 // Which of two messages came first, for many pairs: their lengths, the messages that they name, the byte of a pair, and all
 // bytes. The pairs are judged before a byte is written.
+#![tactic(auto)]
+
 ghost use Rattle.std.specs.Prelude.{true, ◌≡◌, ◌*◌, ◌<◌, length};
 ghost use Rattle.definitions.specs.General.{needs, reply, tabulate};
 ghost use Rattle.definitions.specs.World.{count, view};

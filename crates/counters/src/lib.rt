@@ -1,4 +1,6 @@
 // A message's counters for one group against del: 16 words and 16 words, lent where they stand.
+#![tactic(auto)]
+
 ghost use Rattle.std.specs.Prelude.{◌≡◌, length};
 ghost use Rattle.definitions.specs.General.{every};
 ghost use Rattle.counters.specs.Counters.{rows_at_most};

@@ -1,4 +1,6 @@
 // The test "deliverable": whether a message of a process's FIFO log can be delivered causally.
+#![tactic(auto)]
+
 ghost use Rattle.std.specs.Prelude.{◌≡◌, ◌<◌, length};
 ghost use Rattle.definitions.specs.World.{view};
 ghost use Rattle.definitions.specs.Machine.{deliverable};

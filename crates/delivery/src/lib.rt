@@ -1,4 +1,6 @@
 // One causal delivery, through the record of the process and the table of the message.
+#![tactic(auto)]
+
 ghost use Rattle.std.specs.Prelude.{◌≡◌, ◌+◌, ◌<◌, length};
 ghost use Rattle.definitions.specs.World.{view, group, stamp, causal_length};
 ghost use Rattle.definitions.specs.Machine.{causal_one};

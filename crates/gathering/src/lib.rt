@@ -1,4 +1,6 @@
 // The letters that can move join the queues, from the words: all of them once, and what an arrival sent after it.
+#![tactic(auto)]
+
 ghost use Rattle.std.specs.Prelude.{false, ◌≡◌, ◌<◌, ◌/◌, ◌%◌, length};
 ghost use Rattle.definitions.specs.General.{mask_of};
 ghost use Rattle.definitions.specs.World.{view, size};

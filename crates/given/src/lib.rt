@@ -1,4 +1,6 @@
 // A step as it is given, 8 bytes, read: kind, operands, zeros.
+#![tactic(auto)]
+
 ghost use Rattle.std.specs.Prelude.{◌≡◌, ◌+◌, ◌≤◌, ◌<◌, length, get_or};
 ghost use Rattle.definitions.specs.General.{pick, low_first};
 ghost use Rattle.definitions.specs.Steps.{zeros_from, read};
@@ -6,7 +8,7 @@ ghost use Rattle.given.specs.Given.{step_of, letter_good};
 
 // What the bytes ask for. A multicast is its process, group mask and order number; a letter is its kind, its message,
 // from whom and to whom.
-#[derive(Drop)]
+#[derive(Clone, Copy)]
 pub enum Given {
     Multicast(usize, u16, u16),
     Arrival(usize, usize, usize, usize),

@@ -1,5 +1,7 @@
 // What exists in a world: whether n and the count obey the limits, the groups of the processes are numbered
 // without a gap, and each message has a sender and a mask that exist.
+#![tactic(auto)]
+
 ghost use Rattle.std.specs.Prelude.{◌≡◌, ◌&&◌, leb, eqb};
 ghost use Rattle.definitions.specs.World.{view};
 ghost use Rattle.heads.specs.Known.{Sized, Grouped};

@@ -1,4 +1,6 @@
 // The search for the lowest letter to an up process, by message, kind, from, to, from a place before which none stands.
+#![tactic(auto)]
+
 ghost use Rattle.std.specs.Prelude.{◌≡◌, ◌≤◌, ◌<◌, length};
 ghost use Rattle.definitions.specs.General.{with, mask_of, pick};
 ghost use Rattle.definitions.specs.World.{size, count, view};

@@ -1,5 +1,7 @@
 // The tables that the soundness test builds once: the limits of what is counted, the addressees and the sender of each
 // message.
+#![tactic(auto)]
+
 ghost use Rattle.std.specs.Prelude.{◌≡◌, ◌+◌, ◌≤◌, length};
 ghost use Rattle.definitions.specs.World.{view};
 ghost use Rattle.heads.specs.Known.{Sized, Placed};

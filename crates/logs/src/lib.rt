@@ -1,4 +1,6 @@
 // The logs of a world: where each stands among its words, how long it is, the log itself, and a message appended.
+#![tactic(auto)]
+
 ghost use Rattle.std.specs.Prelude.{◌≡◌, ◌+◌, ◌≤◌, ◌<◌, length, take, drop};
 ghost use Rattle.definitions.specs.General.{pick};
 ghost use Rattle.definitions.specs.World.{addr, view};

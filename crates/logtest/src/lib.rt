@@ -1,4 +1,6 @@
 // One pass over the FIFO log of a process.
+#![tactic(auto)]
+
 ghost use Rattle.logtest.specs.Log.{log_at, Passable, Passed};
 
 // The set of the items, the processes that every item is addressed to, how many items are of each sender.

@@ -1,4 +1,6 @@
 // Making a world from a setup record.
+#![tactic(auto)]
+
 ghost use Rattle.std.specs.Prelude.{true, ◌≡◌, ◌-◌, ◌^◌, ◌≤◌, ◌<◌, ltb, length};
 ghost use Rattle.definitions.specs.General.{pick};
 ghost use Rattle.definitions.specs.World.{encode};

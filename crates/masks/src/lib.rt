@@ -1,4 +1,6 @@
 // Masks of 16 bits: a bit tested, set and cleared, the ones counted, and the lowest one.
+#![tactic(auto)]
+
 ghost use Rattle.std.specs.Prelude.{◌≡◌, ◌<◌};
 ghost use Rattle.definitions.specs.General.{first_from, tally, bit, with, without};
 

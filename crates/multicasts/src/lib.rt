@@ -1,5 +1,7 @@
 // The multicast of a message by process p to the groups of a mask, with an order number: p's counters and sequence counts rise,
 // are then copied onto the message, the message is numbered, and first letters go in flight.
+#![tactic(auto)]
+
 ghost use Rattle.std.specs.Prelude.{◌≡◌, ◌+◌, ◌<◌, length, get_or, set};
 ghost use Rattle.definitions.specs.General.{bit, pick, with};
 ghost use Rattle.definitions.specs.World.{count, view, encode};

@@ -1,4 +1,6 @@
 // Parts of byte slices: cleared, filled, and tested for zeros.
+#![tactic(auto)]
+
 ghost use Rattle.std.specs.Prelude.{◌≡◌, ◌≤◌, length, replicate};
 ghost use Rattle.definitions.specs.General.{filled, all_zero};
 
@@ -7,6 +9,18 @@ pub fn wide(x: u8) -> usize
     ensures { result ≡ x }
 {
     x as usize
+}
+
+// Copies all of src over dst, which is as long.
+pub fn copy(src: &[u8], dst: &mut [u8])
+    requires { length src.now ≡ length dst.old }
+    ensures { dst.new ≡ src.now }
+{
+    let mut i: usize = 0;
+    while i < src.len() {
+        dst[i] = src[i];
+        i += 1;
+    }
 }
 
 // Sets every byte of the part to zero.
@@ -25,7 +39,8 @@ pub fn fill(part: &mut [u8], s: &[u8])
     requires { length s.now ≤ length part.old }
     ensures { part.new ≡ filled (length part.old) s.now }
 {
-    let n = bytes::copy(s, part);
+    let n = s.len();
+    copy(s, &mut part[..n]);
     clear(&mut part[n..]);
 }
 

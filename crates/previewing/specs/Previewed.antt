@@ -69,7 +69,7 @@ module _ {w bytes second u : List ℕ} {p : ℕ} (h : Done w bytes second u p) w
       let z = step_sound s (read bytes) accepts h.lent.world.reads in
       let n = count_high t z in
       let f = fifo_length_high t z p low in
-      elim log [
+      elim log as (λ (b : Bool). log_length t p b ≤ 64) [
         | true ↦ omega (arith, causal_length_high t z p low, f, n)
         | false ↦ omega (arith, f, n)
       ]

@@ -1,5 +1,7 @@
 // The preview of a step of a sound world, for callers that know it to be sound: the step is judged on the world, and only
 // one that is taken is done, on a copy and with the index of both. A refusal changes nothing of the copy.
+#![tactic(auto)]
+
 ghost use Rattle.std.specs.Prelude.{◌≡◌, ◌-◌, ◌≤◌, ◌<◌, length};
 ghost use Rattle.definitions.specs.World.{view};
 ghost use Rattle.definitions.specs.Words.{log_length, previewed_words, preview_reply};

@@ -1,6 +1,8 @@
 // Letters sorted by who they go to, beside the words: for each message and process the set of its places, 16 k + q for
 // kind k from q; for each process the set of messages with such a place; and the set of the processes with such a message.
 // One joins, one leaves, all of one place are noted; who is served next.
+#![tactic(auto)]
+
 ghost use Rattle.std.specs.Prelude.{◌≡◌, ◌≤◌, ◌<◌, length};
 ghost use Rattle.queues.specs.Queues.{Places, Queues, joined, parted, noted, served_of};
 

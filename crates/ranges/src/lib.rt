@@ -1,4 +1,6 @@
 // Tests over a run of words: what offends is gathered by or over the whole run, and tested once.
+#![tactic(auto)]
+
 ghost use Rattle.std.specs.Prelude.{◌≡◌, ◌+◌, ◌-◌, ◌≤◌, length};
 ghost use Rattle.ranges.specs.Ranges.{zeros_at, within_at};
 

@@ -1,5 +1,7 @@
 // Words that are lent as a world, tested; the logs of a world and the order numbers of its messages read, whose message is
 // awaited, and which messages came first. None of it asks anything of its caller.
+#![tactic(auto)]
+
 ghost use Rattle.std.specs.Prelude.{◌≡◌, ◌<◌};
 ghost use Rattle.definitions.specs.Words.{needs_world, log_words, length_reply, order_reply, awaited_reply, precedes_bytes, precedes_reply};
 ghost use Rattle.definitions.specs.Answers.{refusal_number, outcome_number, amount_reply, order_number_reply, awaiting_reply};

@@ -1,4 +1,6 @@
 // The letter of kind k for message m from q to p: it leaves flight, and an OK sets its mark.
+#![tactic(auto)]
+
 ghost use Rattle.std.specs.Prelude.{◌≡◌, ◌<◌, eqb, length};
 ghost use Rattle.definitions.specs.General.{pick, with};
 ghost use Rattle.definitions.specs.Machine.{leave, mark};

@@ -1,11 +1,13 @@
 // The record of a process, by value: its group, its trust set and its arrays, read from the words, changed and stored
 // again.
+#![tactic(auto)]
+
 ghost use Rattle.std.specs.Prelude.{◌≡◌, ◌+◌, ◌<◌, length};
 ghost use Rattle.world.specs.Layout.{Reads, Changes};
 ghost use Rattle.records.specs.Record.{record_of, with_record, with_delivery};
 
 // The record: C as 8 rows of 16, b, next and del.
-#[derive(Drop)]
+#[derive(Clone, Copy)]
 pub struct Process {
     pub group: u16,
     pub trust: u16,

@@ -1,4 +1,6 @@
 // Which steps are refused, and why: the lowest number first. Nothing is changed.
+#![tactic(auto)]
+
 ghost use Rattle.std.specs.Prelude.{◌≡◌, not, ◌&&◌, ◌||◌, ℕ, ◌^◌, ◌≤◌, ◌<◌, ltb, length};
 ghost use Rattle.definitions.specs.General.{pick, bit, only};
 ghost use Rattle.definitions.specs.World.{view, has_group};

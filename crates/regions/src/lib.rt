@@ -1,4 +1,6 @@
 // Tests over the regions of a world whose words rest on other words: held flags and marks, letters, next.
+#![tactic(auto)]
+
 ghost use Rattle.std.specs.Prelude.{◌≡◌, ◌+◌, ◌-◌, ◌*◌, ◌≤◌, ◌<◌, eqb, length};
 ghost use Rattle.std.specs.Int.Bits.{bit_and};
 ghost use Rattle.definitions.specs.General.{pick, bit};

@@ -1,4 +1,6 @@
 // A caller of the journal who writes and reads, or reads and writes: what went in comes out.
+#![tactic(auto)]
+
 ghost use Rattle.std.specs.Prelude.{◌≡◌};
 ghost use Rattle.definitions.specs.General.{pick};
 ghost use Rattle.round_trip.specs.Calls.{both_written, both_read};

@@ -117,10 +117,6 @@ oks_keep p q P keep (suc k) s h = go (due t p q k) (oks_keep p q P keep k s h)
     go true z = keep t k z
     go false z = z
 
-pub bounds_oks : (p q k : ℕ) (s : State) → Bounds s → Bounds (send_oks s p q k)
-unfolding put
-bounds_oks p q k s h = oks_keep p q (λ t. Bounds t) (λ t m z. z) k s h
-
 -- ---- the loop over the messages
 pub oks_start : (p q : ℕ) (s : State) → send_oks s p q 0 ≡ s
 unfolding send_oks

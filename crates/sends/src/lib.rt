@@ -1,5 +1,7 @@
 // Letters: who the addressees of a message are, and the letters and OKs that a process sends to them; which messages it
 // can deliver in FIFO order.
+#![tactic(auto)]
+
 ghost use Rattle.std.specs.Prelude.{not, ◌&&◌, ◌≡◌, ◌+◌, ◌<◌, length, get_or};
 ghost use Rattle.definitions.specs.General.{bit, with, pick, every, tally};
 ghost use Rattle.definitions.specs.World.{addressed, view, State, encode, size, count, sender};

@@ -1,5 +1,7 @@
 // The fair settle: arrivals one after the other, the processes served in turn, each with its lowest letter. The letters that
 // can move are sorted beside the words once; after an arrival only what it sent is noted, from the words.
+#![tactic(auto)]
+
 ghost use Rattle.std.specs.Prelude.{false, ◌≡◌, ◌/◌, ◌%◌};
 ghost use Rattle.definitions.specs.General.{gives};
 ghost use Rattle.definitions.specs.World.{view};

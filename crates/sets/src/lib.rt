@@ -1,5 +1,7 @@
 // Sets of numbers below 64, one bit for each: a member tested, put in, taken out; the lowest one; two sets joined, one taken
 // from another; the set of the items of a log.
+#![tactic(auto)]
+
 ghost use Rattle.std.specs.Prelude.{◌≡◌, ◌≢◌, not, ◌&&◌, ◌||◌, ℕ, ◌+◌, ◌<◌, get_or};
 ghost use Rattle.definitions.specs.General.{tally, bit, with, without, pick};
 ghost use Rattle.sets.specs.Lowest.{lowest};

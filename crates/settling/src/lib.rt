@@ -1,6 +1,8 @@
 // Settle: arrivals one after the other, each of the lowest letter to an up process. The letters of one place go to its
 // receivers in a batch, as long as none sends a letter at that place or below; then the search goes on from there. The
 // processes at which a letter has arrived are known to be quiescent.
+#![tactic(auto)]
+
 ghost use Rattle.std.specs.Prelude.{◌≢◌, ◌≡◌, ◌<◌};
 ghost use Rattle.index.specs.Index.{Index};
 ghost use Rattle.definitions.specs.World.{view, size, count};

@@ -1,4 +1,6 @@
 // The setup record of a world: read and tested.
+#![tactic(auto)]
+
 ghost use Rattle.std.specs.Prelude.{◌≡◌, ◌+◌, ◌*◌, ◌≤◌, ◌<◌, length, get_or};
 ghost use Rattle.definitions.specs.World.{has_group};
 ghost use Rattle.definitions.specs.Setup.{fresh, setup_bits, good_setup};

@@ -1,4 +1,6 @@
 // The steps that are a store or two: loss, trust and crash.
+#![tactic(auto)]
+
 ghost use Rattle.std.specs.Prelude.{◌≡◌, ◌<◌, length};
 ghost use Rattle.definitions.specs.World.{view, encode};
 ghost use Rattle.definitions.specs.Machine.{leave, trust_set, crash};

@@ -1,6 +1,8 @@
 // The soundness test: whether lent words are a sound world, sentence by sentence of document 01, section "The
 // world". What exists is tested first; then the blocks, against tables built once; absent processes are one
 // range of zeros, absent messages and the words after them another. What it gathers is left as the index of the world.
+#![tactic(auto)]
+
 ghost use Rattle.std.specs.Prelude.{◌≡◌, length};
 ghost use Rattle.definitions.specs.World.{view};
 ghost use Rattle.definitions.specs.Sound.{sound};

@@ -1,6 +1,8 @@
 // A step of a sound world, for callers that know it to be sound: no word is tested for soundness. A refusal
 // changes nothing. Who knows that all processes are quiescent says so, and spares an arrival the search for ready
 // messages.
+#![tactic(auto)]
+
 ghost use Rattle.std.specs.Prelude.{◌≡◌, length, get_or};
 ghost use Rattle.definitions.specs.World.{view, encode};
 ghost use Rattle.definitions.specs.Steps.{read, refusal, step as stepped, after};

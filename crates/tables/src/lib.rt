@@ -1,4 +1,6 @@
 // The counters of a message, an array of arrays by value: read from the words, and merged entry by entry by maximum.
+#![tactic(auto)]
+
 ghost use Rattle.std.specs.Prelude.{◌≡◌, ◌+◌, ◌≤◌, length, take, drop, max};
 ghost use Rattle.base.specs.Tabulate.{splice};
 ghost use Rattle.tables.specs.Table.{max_row, max_table, table_at, concat};

@@ -1,5 +1,7 @@
 // What the answer of a call tells the caller: its number is returned, and its values go out through lent numbers, which a
 // refusal leaves as they were.
+#![tactic(auto)]
+
 ghost use Rattle.std.specs.Prelude.{◌≡◌};
 ghost use Rattle.definitions.specs.General.{refusal_in, value_in};
 ghost use Rattle.definitions.specs.Words.{NewDeliveries};
