@@ -1,4 +1,4 @@
-//! Finds libbench.a: in the folder that BENCH_LIB_DIR names, or else where `rt staticlib bench` writes it.
+//! Finds libbench.a: in the folder that BENCH_LIB_DIR names, or else where `scripts/build bench` writes it.
 
 use std::env;
 use std::path::{Path, PathBuf};

@@ -1,5 +1,5 @@
 //! Finds the archive: in the folder that ENGINE_LIB_DIR names, or else beside this package, as in dist/, or else where
-//! `rt staticlib engine` writes it.
+//! `scripts/build` writes it.
 
 use std::env;
 use std::path::{Path, PathBuf};

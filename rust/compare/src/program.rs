@@ -24,7 +24,7 @@ pub fn input(index: u64, random: &mut Random, tally: &mut Tally) -> Result<(), D
     same("program: all that is printed", printed.as_str(), &expected)
 }
 
-/// What the program prints: the one that REPLAY names, or else where `rt check replay` leaves it.
+/// What the program prints: the one that REPLAY names, or else where `scripts/build` leaves it.
 fn run(journal: &[u8]) -> io::Result<String> {
     let program = env::var_os("REPLAY").unwrap_or_else(|| "target/bin/replay".into());
     let mut child = Command::new(program).stdin(Stdio::piped()).stdout(Stdio::piped()).spawn()?;
