@@ -1,5 +1,5 @@
 #!/usr/bin/env python3
-"""Brings the names that this repository declares to snake case, once, after /opt/rattle/port/port.py.
+"""Brings the names that this repository declares to snake case, once, after the port.py of the kit.
 
 usage: python3 tools/respell.py        at the top of the repository; files are rewritten in place
 
