@@ -3,7 +3,7 @@
 // quiescent says so: then only message m can be ready. The place of a letter is 48 m + 16 k + q.
 #![tactic(auto)]
 
-ghost use Rattle.std.specs.Prelude.{true, false, ◌≡◌, ◌<◌, ◌≤◌, length};
+ghost use Rattle.std.specs.Prelude.{true, false, ◌≡◌, ◌<◌};
 ghost use Rattle.definitions.specs.General.{every, pick};
 ghost use Rattle.bounds.specs.Bounds.{Bounds};
 ghost use Rattle.index.specs.Index.{Index, Logs};
@@ -13,19 +13,26 @@ ghost use Rattle.definitions.specs.World.{view, size, count, held};
 ghost use Rattle.world.specs.Layout.{Changes};
 ghost use Rattle.arrivals.specs.Arrival.{Leans, Silent, Posts, OnlyIf, marked_of, Arrives, Arrived};
 
-// A place past all places.
+use cells::{Letter, Words};
+use masks::Set;
+
+// A place past all places. No Option: as a number it goes into `min`, and settle compares a place in one test.
 pub const NOWHERE: usize = 3072;
 
 // The messages that are ready at p, where it may be known that no message but m is.
-fn ready_now(w: &[u16], x: &[u64], p: usize, m: usize, only: bool) -> u64
-    requires { (length w.now ≡ 20480) × (p < 16) × (m < view w.now count) × Bounds (view w.now) × Index (view w.now) x.now × OnlyIf only (view w.now) p m }
+fn ready_now(w: &Words, x: &index::Table, p: usize, m: usize, only: bool) -> u64
+    requires p_in { p < 16 }
+    requires m_in { m < view w.now count }
+    requires bounds { Bounds (view w.now) }
+    requires index { Index (view w.now) x.now }
+    requires only_m { OnlyIf only (view w.now) p m }
     ensures { Ready (view w.now) p result }
 {
     if !only {
         return cascade::ready_set(w, x, p);
     }
     if sends::is_ready(w, x, p, m) {
-        return sets::join(0, m);
+        return 0u64.join(m);
     }
     0
 }
@@ -38,9 +45,12 @@ fn answer_kind(in_turn: bool) -> usize
 }
 
 // A message that p did not hold is held, and answered: at the place told.
-fn take_hold(w: &mut [u16], x: &[u64], m: usize, p: usize) -> usize
-    requires { (length w.old ≡ 20480) × (p < 16) × (m < view w.old count) × Bounds (view w.old) × Index (view w.old) x.now }
-    ensures words { (length w.new ≡ 20480) × Changes w.old w.new (λ s. hold s p m) }
+fn take_hold(w: &mut Words, x: &index::Table, m: usize, p: usize) -> usize
+    requires p_in { p < 16 }
+    requires m_in { m < view w.old count }
+    requires bounds { Bounds (view w.old) }
+    requires index { Index (view w.old) x.now }
+    ensures words { Changes w.old w.new (λ s. hold s p m) }
     ensures place { Silent (view w.old) (hold (view w.old) p m) result }
 {
     if cells::word(w, cells::PROCESSES + p * cells::PROCESS + cells::HELD + m) == 1 {
@@ -54,35 +64,26 @@ fn take_hold(w: &mut [u16], x: &[u64], m: usize, p: usize) -> usize
 }
 
 // The letter leaves flight, and an OK sets its mark. Whether anything can follow.
-pub fn touch(
-    w: &mut [u16],
-    x: &[u64],
-    k: usize,
-    m: usize,
-    q: usize,
-    p: usize,
-    quiescent: bool,
-) -> bool
-    requires { (length w.old ≡ 20480) × (p < 16) × (m < view w.old count) × Bounds (view w.old) × Index (view w.old) x.now × (k < 3) × (q < 16) }
-    ensures words { (length w.new ≡ 20480) × Changes w.old w.new (λ s. marked_of s k m q p) }
-    ensures over { result ≡ false → (quiescent ≡ true) × (view w.new (held p m) ≡ 1) × (every (view w.new size) (marked (view w.new) p m) ≡ false) }
+pub fn touch(w: &mut Words, x: &index::Table, letter: Letter, quiescent: bool) -> bool
+    requires kind_in { letter.kind < 3 }
+    requires message_in { letter.message < view w.old count }
+    requires from_in { letter.from < 16 }
+    requires to_in { letter.to < 16 }
+    requires bounds { Bounds (view w.old) }
+    requires index { Index (view w.old) x.now }
+    ensures words { Changes w.old w.new (λ s. marked_of s letter.kind letter.message letter.from letter.to) }
+    ensures over { result ≡ false → (quiescent ≡ true) × (view w.new (held letter.to letter.message) ≡ 1) × (every (view w.new size) (marked (view w.new) letter.to letter.message) ≡ false) }
 {
-    receiving::take_out(w, k, m, q, p);
-    receiving::set_mark(w, k, m, q, p);
+    receiving::take_out(w, letter);
+    receiving::set_mark(w, letter);
     if !quiescent {
         return true;
     }
-    if cells::word(w, cells::PROCESSES + p * cells::PROCESS + cells::HELD + m) != 1 {
+    let at = cells::PROCESSES + letter.to * cells::PROCESS + cells::HELD + letter.message;
+    if cells::word(w, at) != 1 {
         return true;
     }
-    sends::has_marks(w, x, p, m)
-}
-
-// A place at most both.
-fn least(a: usize, b: usize) -> usize
-    ensures { (result ≤ a) × (result ≤ b) }
-{
-    if a < b { a } else { b }
+    sends::has_marks(w, x, letter.to, letter.message)
 }
 
 // Where letters were sent: a place below which none was, and the messages of them all.
@@ -93,9 +94,9 @@ pub struct Sent {
 }
 
 // The rest of an arrival, and where it sent letters: an answer for m, and OKs, none but from p.
-pub fn follow(w: &mut [u16], x: &mut [u64], m: usize, p: usize, only: bool) -> Sent
+pub fn follow(w: &mut Words, x: &mut index::Table, m: usize, p: usize, only: bool) -> Sent
     requires { Leans w.old x.old p m only }
-    ensures words { (length w.new ≡ 20480) × Changes w.old w.new (λ s. cascade (hold s p m) p) }
+    ensures words { Changes w.old w.new (λ s. cascade (hold s p m) p) }
     ensures index { Index (view w.new) x.new × Logs (view w.new) p }
     ensures place { Silent (view w.old) (view w.new) result.place }
     ensures messages { Posts (view w.old) (view w.new) p result.messages }
@@ -103,36 +104,28 @@ pub fn follow(w: &mut [u16], x: &mut [u64], m: usize, p: usize, only: bool) -> S
     let at = take_hold(w, x, m, p);
     let ready = ready_now(w, x, p, m, only);
     if ready == 0 {
-        let answered = sets::join_if(0, m, at < NOWHERE);
+        let answered = 0u64.join_if(m, at < NOWHERE);
         return Sent {
             place: at,
             messages: answered,
         };
     }
     let oks = cascade::cascade(w, x, p, ready);
-    let place = least(at, sets::lowest(oks) * 48 + 32 + p);
-    let all = sets::join_if(oks, m, at < NOWHERE);
+    let place = at.min(oks.lowest() * 48 + 32 + p);
+    let all = oks.join_if(m, at < NOWHERE);
     Sent {
-        place: place,
+        place,
         messages: all,
     }
 }
 
 // The whole arrival. A place below which it sent no letter.
-pub fn arrive(
-    w: &mut [u16],
-    x: &mut [u64],
-    k: usize,
-    m: usize,
-    q: usize,
-    p: usize,
-    quiescent: bool,
-) -> usize
-    requires { Arrives w.old x.old k m q p quiescent }
-    ensures { Arrived w.old w.new x.new k m q p result }
+pub fn arrive(w: &mut Words, x: &mut index::Table, letter: Letter, quiescent: bool) -> usize
+    requires { Arrives w.old x.old letter.kind letter.message letter.from letter.to quiescent }
+    ensures { Arrived w.old w.new x.new letter.kind letter.message letter.from letter.to result }
 {
-    if touch(w, x, k, m, q, p, quiescent) {
-        return follow(w, x, m, p, quiescent).place;
+    if touch(w, x, letter, quiescent) {
+        return follow(w, x, letter.message, letter.to, quiescent).place;
     }
     NOWHERE
 }

@@ -2,6 +2,8 @@
 use Rattle.std.specs.Prelude.{◌≡◌, refl, Bool, true, false, not, ◌&&◌, List, ℕ, ◌+◌, ◌≤◌, ◌<◌, ltb, leb, get_or}
 use Rattle.std.proofs.Common.{sym, ap, ◌∙◌, inl, inr, arith}
 use borrow.Author.Tests.{lt-ltb, le-ltb, le-leb, lt-leb}
+use Rattle.std.specs.Prelude.{length, take, drop}
+use Rattle.std.proofs.lemmas.List.{get_or-take, get_or-drop, length-take-le, length-drop}
 use Rattle.definitions.specs.General.{absent}
 use Rattle.definitions.specs.World.{size, count, fifo_length, causal_length, fifo, causal, State, view, outside_fifo, outside_causal}
 use Rattle.definitions.specs.Machine.{yes_now, message_of, process_alone, lowest_short, lowest_awaited, short_of, awaited}
@@ -22,29 +24,39 @@ falls_short true x del = refl
 falls_short false x del = sym (not_leb x del)
 
 -- ---- the logs: m is none of their items
-pub not_in_fifo : (w : List ℕ) (p m at n : ℕ) → at ≡ log_start p false → n ≡ log_length (view w) p false
-    → absent n m (λ j. get_or w (at + j) 0) ≡ outside_fifo (view w) p m
-not_in_fifo w p m at n e d =
-    absent_cong n (view w (fifo_length p)) m (λ j. get_or w (at + j) 0) (λ j. view w (fifo p j)) d
-    (λ j _. ap (λ (a : ℕ). get_or w a 0) (omega arith))
+part_lacks : (w : List ℕ) (a n m : ℕ) (log : List ℕ) (f : ℕ → ℕ) → log ≡ take n (drop a w) → a + n ≤ length w
+    → ((i : ℕ) → get_or w (a + i) 0 ≡ f i) → absent (length log) m (λ i. get_or log i 0) ≡ absent n m f
+part_lacks w a n m log f e h s =
+    let long : length log ≡ n = ap (λ (x : List ℕ). length x) e ∙ length-take-le n (drop a w) (omega (arith, length-drop a w)) in
+    absent_cong (length log) n m (λ i. get_or log i 0) f long
+    (λ i k. ap (λ (x : List ℕ). get_or x i 0) e ∙ get_or-take n (drop a w) i 0 (omega (arith, long)) ∙ get_or-drop a w i 0 ∙ s i)
 
-pub not_in_causal : (w : List ℕ) (p m at n : ℕ) → at ≡ log_start p true → n ≡ log_length (view w) p true
-    → absent n m (λ j. get_or w (at + j) 0) ≡ outside_causal (view w) p m
-not_in_causal w p m at n e d =
-    absent_cong n (view w (causal_length p)) m (λ j. get_or w (at + j) 0) (λ j. view w (causal p j)) d
-    (λ j _. ap (λ (a : ℕ). get_or w a 0) (omega arith))
+module _ (w : List ℕ) (p m : ℕ) (log : List ℕ) where
+  pub not_in_fifo : log ≡ take (log_length (view w) p false) (drop (log_start p false) w)
+      → log_start p false + log_length (view w) p false ≤ length w
+      → absent (length log) m (λ i. get_or log i 0) ≡ outside_fifo (view w) p m
+  not_in_fifo e h =
+      part_lacks w (log_start p false) (view w (fifo_length p)) m log (λ i. view w (fifo p i)) e h
+      (λ i. ap (λ (a : ℕ). get_or w a 0) (omega arith))
+
+  pub not_in_causal : log ≡ take (log_length (view w) p true) (drop (log_start p true) w)
+      → log_start p true + log_length (view w) p true ≤ length w
+      → absent (length log) m (λ i. get_or log i 0) ≡ outside_causal (view w) p m
+  not_in_causal e h =
+      part_lacks w (log_start p true) (view w (causal_length p)) m log (λ i. view w (causal p i)) e h
+      (λ i. ap (λ (a : ℕ). get_or w a 0) (omega arith))
 
 -- ---- the answer, by what the two searches found
-module _ (s : State) (p m q : ℕ) (e : q ≡ lowest_short s p m) where
-  pub none_short : s size ≤ q → yes_now ≡ awaited s p m
+module _ (s : State) (p m : ℕ) where
+  pub none_short : s size ≤ lowest_short s p m → yes_now ≡ awaited s p m
   unfolding awaited
-  none_short l = rw (← e, le-ltb q (s size) l)
+  none_short l = rw (le-ltb (lowest_short s p m) (s size) l)
 
-  module _ (l : q < s size) (x : ℕ) (d : x ≡ lowest_awaited s p q) where
-    pub none_next : s count ≤ x → process_alone q ≡ awaited s p m
+  module _ (q : ℕ) (e : q ≡ lowest_short s p m) (l : q < s size) where
+    pub none_next : s count ≤ lowest_awaited s p q → process_alone q ≡ awaited s p m
     unfolding awaited short_of
-    none_next h = rw (← e, lt-ltb q (s size) l, ← d, le-ltb x (s count) h)
+    none_next h = rw (← e, lt-ltb q (s size) l, le-ltb (lowest_awaited s p q) (s count) h)
 
-    pub one_next : x < s count → message_of q x ≡ awaited s p m
+    pub one_next : (x : ℕ) → x ≡ lowest_awaited s p q → x < s count → message_of q x ≡ awaited s p m
     unfolding awaited short_of
-    one_next h = rw (← e, lt-ltb q (s size) l, ← d, lt-ltb x (s count) h)
+    one_next x d h = rw (← e, lt-ltb q (s size) l, ← d, lt-ltb x (s count) h)

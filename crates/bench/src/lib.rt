@@ -1,4 +1,4 @@
-// What the benchmark calls, exported by `bench_c`; the archive that is delivered exports none of it.
+// What the benchmark calls; the archive that is delivered exports none of it.
 #![tactic(auto)]
 
 ghost use Rattle.std.specs.Prelude.{◌&&◌, ◌≡◌, eqb, ltb};
@@ -7,24 +7,28 @@ ghost use Rattle.definitions.specs.World.{view};
 ghost use Rattle.definitions.specs.Machine.{deliverable};
 ghost use Rattle.definitions.specs.Words.{needs_world};
 
+use cells::Words;
+
 // The refusal of words that are no sound world: 1, 2, or 0 for a sound one.
-pub fn wt_bench_sound(w: &[u16]) -> u32
+#[unsafe(no_mangle)]
+pub extern "C" fn wt_bench_sound(w: &[u16]) -> u32
     ensures { result ≡ needs_world w.now 0 }
 {
-    if w.len() != cells::WORLD {
+    let Ok(w) = <&Words>::try_from(w) else {
         return 1;
-    }
-    if !soundness::test(w) {
-        return 2;
-    }
-    0
+    };
+    if soundness::test(w) { 0 } else { 2 }
 }
 
 // 1 where the words are a sound world and message m is deliverable at process p, else 0.
-pub fn wt_bench_deliverable(w: &[u16], p: usize, m: usize) -> u32
+#[unsafe(no_mangle)]
+pub extern "C" fn wt_bench_deliverable(w: &[u16], p: usize, m: usize) -> u32
     ensures { result ≡ pick (eqb (needs_world w.now 0) 0 && ltb p 16 && ltb m 64 && deliverable (view w.now) p m) 1 0 }
 {
-    if wt_bench_sound(w) != 0 {
+    let Ok(w) = <&Words>::try_from(w) else {
+        return 0;
+    };
+    if !soundness::test(w) {
         return 0;
     }
     if 16 <= p {
@@ -33,8 +37,5 @@ pub fn wt_bench_deliverable(w: &[u16], p: usize, m: usize) -> u32
     if 64 <= m {
         return 0;
     }
-    if deliverable::fits_all(w, p, m) {
-        return 1;
-    }
-    0
+    if deliverable::fits_all(w, p, m) { 1 } else { 0 }
 }

@@ -10,6 +10,7 @@ use Rattle.heads.specs.Known.{Sized, Placed, Headed}
 use Rattle.sets.specs.Powers.{Powers}
 use Rattle.limits.specs.Senders.{Senders}
 use Rattle.limits.specs.Addressees.{Addressees}
+use Rattle.blocks.specs.declared.Known.{Known}
 
 -- t has the limits: of what is counted, by whether the group and the process exist, and of a log's items.
 pub record Bounds (s : State) (t : List ℕ) : Type 0 where
@@ -21,17 +22,15 @@ pub record Bounds (s : State) (t : List ℕ) : Type 0 where
   pub items : (i : ℕ) → i < 64 → get_or t (152 + i) 0 ≡ 63
   pub past : (i : ℕ) → i < 64 → get_or t (216 + i) 0 ≡ 0
 
-pub record Ready (w : List ℕ) (n messages : ℕ) (limits addressees : List ℕ) : Type 0 where
-  pub sized : Sized w n messages
+-- What exists may be, and the tables are those of the world.
+pub record Ready (w : List ℕ) (t : Known) : Type 0 where
+  pub sized : Sized w t.size t.count
   pub placed : Placed (view w)
   pub headed : Headed (view w)
-  pub bounds : Bounds (view w) limits
-  pub to : Addressees (view w) addressees
-
--- The senders of the messages, and the bits of a set.
-pub record Tables (s : State) (messages : ℕ) (from bits : List ℕ) : Type 0 where
-  pub senders : Senders s messages from
-  pub powers : Powers bits
+  pub bounds : Bounds (view w) t.limits
+  pub to : Addressees (view w) t.addressees
+  pub senders : Senders (view w) t.count t.from
+  pub powers : Powers t.bits
 
 -- The logs of p have room.
 pub record Lengths (s : State) (p : ℕ) : Type 0 where
@@ -39,11 +38,9 @@ pub record Lengths (s : State) (p : ℕ) : Type 0 where
   pub causal_few : s (causal_length p) ≤ 64
 
 -- the sender of a message is a process
-pub sender_low : (w : List ℕ) (n messages : ℕ) (limits addressees : List ℕ)
-    → Ready w n messages limits addressees
-    → (m : ℕ) → m < messages → view w (sender m) < 16
+pub sender_low : (w : List ℕ) (t : Known) → Ready w t → (m : ℕ) → m < t.count → view w (sender m) < 16
 unfolding fine fit
-sender_low w n messages limits addressees h m k =
+sender_low w t h m k =
     let ec = h.sized.count_is in
     let es = h.sized.size_is in
     let eh = h.sized.high in
@@ -52,10 +49,9 @@ sender_low w n messages limits addressees h m k =
     (lt-ltb m (view w count) (omega arith))) in
     omega arith
 
-pub from_small : (w : List ℕ) (n messages : ℕ) (limits addressees from bits : List ℕ)
-    → Ready w n messages limits addressees → Tables (view w) messages from bits → (m : ℕ) → m < 64 → get_or from m 0 < 16
-from_small w n messages limits addressees from bits h t m k = go (le_or_lt messages m)
+pub from_small : (w : List ℕ) (t : Known) → Ready w t → (m : ℕ) → m < 64 → get_or t.from m 0 < 16
+from_small w t h m k = go (le_or_lt t.count m)
   where
-    go : (messages ≤ m) ⊎ (m < messages) → get_or from m 0 < 16
-    go (inl a) = omega (arith, t.senders.past m a k)
-    go (inr a) = omega (arith, t.senders.at m a, sender_low w n messages limits addressees h m a)
+    go : (t.count ≤ m) ⊎ (m < t.count) → get_or t.from m 0 < 16
+    go (inl a) = omega (arith, h.senders.past m a k)
+    go (inr a) = omega (arith, h.senders.at m a, sender_low w t h m a)

@@ -1,11 +1,12 @@
 -- "each log lists distinct messages addressed to its process, the causal one only members of the FIFO one",
 -- by the sets of the messages that they list. Assumes nothing.
-use Rattle.std.specs.Prelude.{◌≡◌, Bool, ◌&&◌, List, ◌⊎◌, ltb, leb, eqb, get_or}
+use Rattle.std.specs.Prelude.{◌≡◌, Bool, cond, ◌&&◌, Option, Some, None, is_some, List, ◌⊎◌, ltb, leb, eqb, get_or}
 use Rattle.std.proofs.Math.Path.{refl, ap, ap₂}
 use Rattle.std.proofs.Common.{sym, ◌∙◌, subst, inl, inr, arith}
 use Rattle.std.proofs.Math.Bool.{true, false, not}
 use Prim.Native.Nat.{ℕ, ◌+◌, ◌-◌, ◌*◌, ◌^◌, ◌≤◌, ◌<◌}
 use Rattle.std.specs.Int.Bits.{bit_and}
+use Rattle.std.proofs.lemmas.Option.{cond_some}
 use borrow.Author.Tests.{lt-ltb, le-ltb, ltb-true, eq-eqb, eqb-true, le-leb, leb-true}
 use Rattle.definitions.specs.General.{pick, every, tally, In, in_at, absent, bit}
 use Rattle.definitions.specs.World.{Cell, State, size, count, fifo_length, causal_length, fifo, causal, addr, view, is_process, is_message}
@@ -23,6 +24,7 @@ use Rattle.limits.specs.Addressees.{Addressees, addressee_bit}
 use Rattle.limits.specs.Senders.{Senders}
 use Rattle.regions.specs.Runs.{fine_run, run_split, run_of, run_cell}
 use Rattle.regions.specs.Nexts.{from_at, Counted, Small}
+use Rattle.blocks.specs.declared.Listed.{Listed}
 use Rattle.blocks.specs.Known.{Bounds}
 
 -- The items of p's logs are below 64, and zero past the logs' ends.
@@ -36,11 +38,11 @@ tidy_logs s p = tidy_log (s (fifo_length p)) (λ i. s (fifo p i)) && tidy_log (s
 unfoldable pub logs_fine : State → ℕ → Bool
 logs_fine s p = fine_run s (3 + p * 429 + 301) 64 && fine_run s (3 + p * 429 + 365) 64
 
--- Whether the logs and next of p are fine, and the messages of each log.
-pub record LogsOf (s : State) (p : ℕ) (good : Bool) (fifos causals : ℕ) : Type 0 where
-  pub is_good : good ≡ (logs_fine s p && fine_run s (3 + p * 429 + 138) 16)
-  pub first : Members fifos (s (fifo_length p)) (λ i. s (fifo p i))
-  pub second : Members causals (s (causal_length p)) (λ i. s (causal p i))
+-- There are sets exactly if the logs and next of p are fine; they are the messages of each log.
+pub record LogsOf (s : State) (p : ℕ) (r : Option Listed) : Type 0 where
+  pub is_good : is_some r ≡ (logs_fine s p && fine_run s (3 + p * 429 + 138) 16)
+  pub first : (x : Listed) → r ≡ Some x → Members x.fifo (s (fifo_length p)) (λ i. s (fifo p i))
+  pub second : (x : Listed) → r ≡ Some x → Members x.causal (s (causal_length p)) (λ i. s (causal p i))
 
 -- ---- a tidy log, against the limits
 pub tidy_within : (w t : List ℕ) (a n : ℕ) → Bounds (view w) t → n ≤ 64
@@ -266,22 +268,32 @@ module _ (w : List ℕ) (p : ℕ) (low : p < 16) (here : p < view w size) where
         second_low = tidy_low c (log_at w (3 + p * 429 + 365)) second_tidy lc
 
     -- with next, which is right where the logs are
-    pub logs_law : (next : Bool) → causals < 2 ^ 64
+    pub logs_law : (next good : Bool) → causals < 2 ^ 64
         → (logs_fine (view w) p ≡ true → next ≡ fine_run (view w) (3 + p * 429 + 138) 16)
-        → LogsOf (view w) p
-        ((((eqb (tally 64 (bit fifos)) f && bit all p) && eqb (tally 64 (bit causals)) c)
-        && eqb (bit_and causals fifos) causals) && next) fifos causals
+        → ((((eqb (tally 64 (bit fifos)) f && bit all p) && eqb (tally 64 (bit causals)) c)
+        && eqb (bit_and causals fifos) causals) && next) ≡ good
+        → LogsOf (view w) p (cond good (Some record { fifo = fifos; causal = causals }) None)
     unfolding logs_fine
-    logs_law next small en = record {
-      is_good = ap (λ (b : Bool). b && next)
+    logs_law next good small en e = record {
+      is_good = some_if good ∙ sym e
+          ∙ ap (λ (b : Bool). b && next)
           (assoc (eqb (tally 64 (bit fifos)) f && bit all p) (eqb (tally 64 (bit causals)) c)
           (eqb (bit_and causals fifos) causals)
           ∙ ap₂ both fifo_law (causal_law small))
           ∙ go (logs_fine (view w) p) refl;
-      first = λ m l. h.members m l ∙ ap (λ (n : ℕ). not (absent n m (log_at w (3 + p * 429 + 301)))) ef;
-      second = λ m l. k m l ∙ ap (λ (n : ℕ). not (absent n m (log_at w (3 + p * 429 + 365)))) ec;
+      first = λ x q m l. ap (λ (y : Listed). bit y.fifo m) (sym (cond_some good sets x q).1)
+          ∙ h.members m l ∙ ap (λ (n : ℕ). not (absent n m (log_at w (3 + p * 429 + 301)))) ef;
+      second = λ x q m l. ap (λ (y : Listed). bit y.causal m) (sym (cond_some good sets x q).1)
+          ∙ k m l ∙ ap (λ (n : ℕ). not (absent n m (log_at w (3 + p * 429 + 365)))) ec;
     }
       where
+        sets : Listed
+        sets = record { fifo = fifos; causal = causals }
+
+        some_if : (b : Bool) → is_some (cond b (Some sets) None) ≡ b
+        some_if true = refl
+        some_if false = refl
+
         assoc : (x y z : Bool) → ((x && y) && z) ≡ (x && (y && z))
         assoc true y z = refl
         assoc false y z = refl

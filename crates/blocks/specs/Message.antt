@@ -17,6 +17,7 @@ use Rattle.ranges.specs.Ranges.{zeros_at, within_at}
 use Rattle.limits.specs.Addressees.{addressees_of}
 use Rattle.regions.specs.Runs.{fine_run, run_of, run_one, run_join, run_cut}
 use Rattle.regions.specs.Letters.{letters_at, letters_law, sender_origin, addressee_origin}
+use Rattle.blocks.specs.declared.Known.{Known}
 use Rattle.blocks.specs.Known.{Ready}
 use Rattle.blocks.specs.Counted.{table_law}
 
@@ -24,8 +25,7 @@ use Rattle.blocks.specs.Counted.{table_law}
 unfoldable pub messages_fine : State → ℕ → Bool
 messages_fine s k = every k (λ m. fine_run s (6867 + m * 187) 187)
 
-module _ (w : List ℕ) (m n messages : ℕ) (limits addressees : List ℕ)
-    (h : Ready w n messages limits addressees) (l : m < messages) where
+module _ (w : List ℕ) (m : ℕ) (t : Known) (h : Ready w t) (l : m < t.count) where
   there : m < view w count
   there = let e = h.sized.count_is in omega arith
 
@@ -35,10 +35,10 @@ module _ (w : List ℕ) (m n messages : ℕ) (limits addressees : List ℕ)
   pub low : m < 64
   low = let e = h.sized.few in omega arith
 
-  stamps_law : within_at w (6867 + m * 187 + 2) limits 0 136 ≡ fine_run (view w) (6867 + m * 187 + 2) 136
+  stamps_law : within_at w (6867 + m * 187 + 2) t.limits 0 136 ≡ fine_run (view w) (6867 + m * 187 + 2) 136
   unfolding fine fit
   stamps_law =
-      table_law w limits h.bounds (is_message (view w) m) is_there (6867 + m * 187 + 2) (stamp m)
+      table_law w t.limits h.bounds (is_message (view w) m) is_there (6867 + m * 187 + 2) (stamp m)
       (number m)
       (λ g q a b. (low, a, b)) (λ g q. refl) (λ g a. (low, a)) (λ g. omega arith) (λ g q. refl) (λ g. refl)
 
@@ -65,7 +65,7 @@ module _ (w : List ℕ) (m n messages : ℕ) (limits addressees : List ℕ)
         ∙ letters_law w m k origins low hk there from small ∙ ap (λ (x : ℕ). fine_run (view w) x 16) (sym e)
 
     -- all three
-    pub flight_law : (v to : ℕ) → v ≡ with 0 (view w (sender m)) → to ≡ get_or addressees m 0
+    pub flight_law : (v to : ℕ) → v ≡ with 0 (view w (sender m)) → to ≡ get_or t.addressees m 0
         → ((letters_at w (6867 + m * 187 + 138) v to && letters_at w (6867 + m * 187 + 138 + 16) to to)
         && letters_at w (6867 + m * 187 + 138 + 32) to to) ≡ fine_run (view w) (6867 + m * 187 + 138) 48
     flight_law v to ev et =
@@ -110,7 +110,7 @@ module _ (w : List ℕ) (m n messages : ℕ) (limits addressees : List ℕ)
       silent false x q = eq-eqb x 0 q
 
   pub message_law :
-      (within_at w (6867 + m * 187 + 2) limits 0 136 && fine_run (view w) (6867 + m * 187 + 138) 48)
+      (within_at w (6867 + m * 187 + 2) t.limits 0 136 && fine_run (view w) (6867 + m * 187 + 138) 48)
       ≡ fine_run (view w) (6867 + m * 187) 187
   message_law =
       ap₂ both stamps_law refl ∙ run_cut (view w) (b + 2) 136 48 (b + 138) 184 (omega arith) refl

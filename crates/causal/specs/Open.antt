@@ -1,7 +1,7 @@
 -- The causal deliveries by the open places: the earliest open place whose message is deliverable is the earliest that the
 -- definition takes; and the loop of the code beside the definition's, with the index right at each turn but for the set
 -- that the code has in hand. Assumes nothing.
-use Rattle.std.specs.Prelude.{◌≡◌, Bool, ℕ, ◌+◌, ◌-◌, ◌≤◌, ◌<◌, ltb, get_or, set, length}
+use Rattle.std.specs.Prelude.{◌≡◌, Bool, Option, Some, None, ℕ, ◌+◌, ◌-◌, ◌≤◌, ◌<◌, ltb, get_or, set, length}
 use Rattle.std.proofs.Math.Path.{refl, ap, subst}
 use Rattle.std.proofs.Common.{sym, ◌∙◌, arith, get_or-set_same}
 use Rattle.std.proofs.Math.Bool.{true, false}
@@ -20,10 +20,17 @@ use Rattle.definitions.specs.World.{fifo_length, causal_length, fifo, State, enc
 use Rattle.world.specs.Layout.{reads_cell}
 use Rattle.definitions.specs.Machine.{deliverable, deliverable_at, causal_all}
 
--- r is the earliest place of p's FIFO log that can be delivered causally, or 64.
-pub record Earliest (s : State) (p r : ℕ) : Type 0 where
-  pub hit : r < 64 → (r < s (fifo_length p)) × (deliverable_at s p r ≡ true)
-  pub miss : (j : ℕ) → j < r → j < s (fifo_length p) → deliverable_at s p j ≡ false
+-- i is the earliest place of p's FIFO log that can be delivered causally
+pub record First (s : State) (p i : ℕ) : Type 0 where
+  pub low : i < 64
+  pub within : i < s (fifo_length p)
+  pub fits : deliverable_at s p i ≡ true
+  pub miss : (j : ℕ) → j < i → deliverable_at s p j ≡ false
+
+-- r is that place, or there is none
+abbrev pub Earliest : State → ℕ → Option ℕ → Type 0
+Earliest s p (Some i) = First s p i
+Earliest s p None = (j : ℕ) → j < s (fifo_length p) → deliverable_at s p j ≡ false
 
 -- what the search has shown of a place passed
 abbrev pub Waits : State → ℕ → ℕ → Type 0
@@ -40,53 +47,57 @@ module _ (s : State) (p : ℕ) where
       go true e = h (both_i (ltb j (s (fifo_length p))) _ (lt-ltb j (s (fifo_length p)) l) e)
       go false e = refl
 
-  pub earliest_hit : (r : ℕ) → is_open (frame s) p r ≡ true → deliverable s p (s (fifo p r)) ≡ true
-      → ((j : ℕ) → j < r → is_open (frame s) p j ≡ true → Waits s p j) → Earliest s p r
+  pub earliest_hit : (r : ℕ) → r < 64 → is_open (frame s) p r ≡ true → deliverable s p (s (fifo p r)) ≡ true
+      → ((j : ℕ) → j < r → is_open (frame s) p j ≡ true → Waits s p j) → First s p r
   unfolding deliverable_at
-  earliest_hit r o d h = record {
-    hit = λ _. (
-      ltb-true r (s (fifo_length p)) (both_l (ltb r (s (fifo_length p))) _ o),
-      both_i (outside_causal s p (s (fifo p r))) (deliverable s p (s (fifo p r)))
-          (both_r (ltb r (s (fifo_length p))) _ o) d,
-    );
-    miss = λ j l k. waiting j k (h j l);
-  }
+  earliest_hit r l o d h =
+      let n = ltb-true r (s (fifo_length p)) (both_l (ltb r (s (fifo_length p))) _ o) in
+      record {
+        low = l;
+        within = n;
+        fits = both_i (outside_causal s p (s (fifo p r))) (deliverable s p (s (fifo p r)))
+            (both_r (ltb r (s (fifo_length p))) _ o) d;
+        miss = λ j k. waiting j (omega arith) (h j k);
+      }
 
   pub earliest_none : s (fifo_length p) ≤ 64 → ((j : ℕ) → j < 64 → is_open (frame s) p j ≡ true → Waits s p j)
-      → Earliest s p 64
-  earliest_none few h = record {
-    hit = λ l. absurd (omega arith);
-    miss = λ j l k. waiting j k (h j l);
-  }
+      → Earliest s p None
+  earliest_none few h = λ j k. waiting j k (h j (omega arith))
 
 -- the same of a state and of its words
-pub earliest_state : (w : List ℕ) (s : State) (p r : ℕ) → w ≡ encode s → Bounds (view w) → p < 16 → r ≤ 64
-    → Earliest (view w) p r → Earliest s p r
-earliest_state w s p r e h hp few z = record {
-  hit = λ l. (omega (arith, length, (z.hit l).0), sym (same r l) ∙ (z.hit l).1);
-  miss = λ j l k. sym (same j (omega arith)) ∙ z.miss j l (omega (arith, length));
-}
-  where
-    length : view w (fifo_length p) ≡ s (fifo_length p)
-    length = reads_cell w (fifo_length p) hp s e
+module _ (w : List ℕ) (s : State) (p : ℕ) (e : w ≡ encode s) (h : Bounds (view w)) (hp : p < 16) where
+  log_same : view w (fifo_length p) ≡ s (fifo_length p)
+  log_same = reads_cell w (fifo_length p) hp s e
 
-    same : (j : ℕ) → j < 64 → deliverable_at (view w) p j ≡ deliverable_at s p j
-    same j l =
-        ap (λ (x : List ℕ). deliverable_at (view x) p j) e
-        ∙ deliverable_words s (bounds_state w s e h) p hp j l
+  same : (j : ℕ) → j < 64 → deliverable_at (view w) p j ≡ deliverable_at s p j
+  same j l =
+      ap (λ (x : List ℕ). deliverable_at (view x) p j) e
+      ∙ deliverable_words s (bounds_state w s e h) p hp j l
+
+  pub earliest_state : (i : ℕ) → First (view w) p i → First s p i
+  earliest_state i z =
+      let l = z.low in
+      record {
+        low = l;
+        within = omega (arith, log_same, z.within);
+        fits = sym (same i l) ∙ z.fits;
+        miss = λ j k. sym (same j (omega arith)) ∙ z.miss j k;
+      }
+
+  pub none_state : Earliest (view w) p None → Earliest s p None
+  none_state z = λ j k. sym (same j (omega (arith, log_same, h.fifo_lengths p hp, h.counts))) ∙ z j (omega (arith, log_same))
 
 -- it is the definition's choice, which is the length of the log where there is none
-pub earliest_is : (s : State) (p r : ℕ) → r < 64 → Earliest s p r → r ≡ earliest p s
+pub earliest_is : (s : State) (p i : ℕ) → First s p i → i ≡ earliest p s
 unfolding chosen
-earliest_is s p r l z =
-    let n = (z.hit l).0 in
-    sym (first_is (s (fifo_length p)) 0 (deliverable_at s p) r (omega arith) (omega arith) (z.hit l).1
-    (λ j _ k. z.miss j k (omega arith)))
+earliest_is s p i z =
+    let n = z.within in
+    sym (first_is (s (fifo_length p)) 0 (deliverable_at s p) i (omega arith) (omega arith) z.fits (λ j _ k. z.miss j k))
 
-pub earliest_past : (s : State) (p r : ℕ) → s (fifo_length p) ≤ r → Earliest s p r → s (fifo_length p) ≤ earliest p s
+pub earliest_past : (s : State) (p : ℕ) → Earliest s p None → s (fifo_length p) ≤ earliest p s
 unfolding chosen
-earliest_past s p r l z =
-    let n = first_past (s (fifo_length p)) 0 (deliverable_at s p) (λ j _ k. z.miss j (omega arith) (omega arith)) in
+earliest_past s p z =
+    let n = first_past (s (fifo_length p)) 0 (deliverable_at s p) (λ j _ k. z j (omega arith)) in
     omega arith
 
 -- ---- the loop: the words hold a state of the definition's loop; the index is right with the set in hand stored
@@ -137,24 +148,24 @@ module _ (p n : ℕ) (s : State) (w x : List ℕ) (places : ℕ) (hp : p < 16) (
   going_bounds = bounds_words w t g.run.words b
 
   -- a place is delivered
-  module _ {i : ℕ} (l : i < 64) (e : Earliest (view w) p i) where
-    pub own : Earliest t p i
-    own = earliest_state w t p i g.run.words going_bounds hp (omega arith) e
+  module _ {i : ℕ} (e : First (view w) p i) where
+    pub own : First t p i
+    own = earliest_state w t p g.run.words going_bounds hp i e
 
     pub going_in : bit places i ≡ true
     unfolding deliverable_at
     going_in =
-        ap (λ (y : ℕ). bit y i) (sym stored) ∙ g.index.opened p hp i l
+        ap (λ (y : ℕ). bit y i) (sym stored) ∙ g.index.opened p hp i e.low
         ∙ both_i (ltb i (t (fifo_length p))) (outside_causal t p (t (fifo p i)))
-        (lt-ltb i (t (fifo_length p)) (own.hit l).0)
-        (both_l (outside_causal t p (t (fifo p i))) (deliverable t p (t (fifo p i))) (own.hit l).1)
+        (lt-ltb i (t (fifo_length p)) own.within)
+        (both_l (outside_causal t p (t (fifo p i))) (deliverable t p (t (fifo p i))) own.fits)
 
     pub out : outside_causal t p (t (fifo p i)) ≡ true
     unfolding deliverable_at
-    out = both_l (outside_causal t p (t (fifo p i))) (deliverable t p (t (fifo p i))) (own.hit l).1
+    out = both_l (outside_causal t p (t (fifo p i))) (deliverable t p (t (fifo p i))) own.fits
 
     pub shorter : t (causal_length p) < t (fifo_length p)
-    shorter = open_room t p i g.logs (own.hit l).0 out
+    shorter = open_room t p i g.logs own.within out
 
     pub going_room : view w (causal_length p) < 64
     going_room =

@@ -1,18 +1,20 @@
 // The words of a world: the places of docs/LAYOUT.md, a word read, letters read and stored, and parts read and stored.
 #![tactic(auto)]
 
-ghost use Rattle.std.specs.Prelude.{◌≡◌, ◌+◌, ◌*◌, ◌≤◌, ◌<◌, length, take, drop, get_or, set, replicate};
+ghost use Rattle.std.specs.Prelude.{◌≡◌, ◌+◌, ◌*◌, ◌≤◌, ◌<◌, length, take, drop, get_or, set};
 ghost use Rattle.base.specs.Tabulate.{splice};
 
-// The number of words of a world.
-pub const WORLD: usize = 20480;
+// The words of a world.
+pub type Words = [u16; 20480];
 
 // The words of the world itself.
 pub const SIZE: usize = 0;
 
 pub const COUNT: usize = 1;
 
-// Process p's block begins at PROCESSES + p * PROCESS.
+// Process p's block begins at PROCESSES + p * PROCESS. That p is below 16, and a message below 64, is a clause of each function
+// and no type: addresses are reckoned from them, so that a type would be made, with a proof, in every loop and taken apart at
+// every address.
 pub const PROCESSES: usize = 3;
 
 pub const PROCESS: usize = 429;
@@ -58,11 +60,14 @@ pub const FLIGHT: usize = 138;
 
 pub const ORDER: usize = 186;
 
-// A word as a number of the machine's width.
-pub fn wide(x: u16) -> usize
-    ensures { result ≡ x }
-{
-    x as usize
+// A letter: its kind, the number of its message, its origin and its receiver. Numbers, since its place is
+// reckoned from them: an enum of the three kinds would be turned back and forth in the searches, which go through places.
+#[derive(Clone, Copy)]
+pub struct Letter {
+    pub kind: usize,
+    pub message: usize,
+    pub from: usize,
+    pub to: usize,
 }
 
 // The word at a.
@@ -70,46 +75,23 @@ pub fn word(w: &[u16], a: usize) -> usize
     requires { a < length w.now }
     ensures { result ≡ get_or w.now a 0 }
 {
-    wide(w[a])
+    usize::from(w[a])
 }
 
 // The receivers of the letters of kind k for message m from q.
-pub fn letters(w: &[u16], m: usize, k: usize, q: usize) -> u16
-    requires { (length w.now ≡ 20480) × (m < 64) × (k < 3) × (q < 16) }
+pub fn letters(w: &Words, m: usize, k: usize, q: usize) -> u16
+    requires { (m < 64) × (k < 3) × (q < 16) }
     ensures { result ≡ get_or w.now (6867 + m * 187 + 138 + (k * 16 + q)) 0 }
 {
     w[MESSAGES + m * MESSAGE + FLIGHT + (k * 16 + q)]
 }
 
 // Stores them.
-pub fn set_letters(w: &mut [u16], m: usize, k: usize, q: usize, to: u16)
-    requires { (length w.old ≡ 20480) × (m < 64) × (k < 3) × (q < 16) }
-    ensures { (length w.new ≡ 20480) × (w.new ≡ set w.old (6867 + m * 187 + 138 + (k * 16 + q)) to) }
+pub fn set_letters(w: &mut Words, m: usize, k: usize, q: usize, to: u16)
+    requires { (m < 64) × (k < 3) × (q < 16) }
+    ensures { w.new ≡ set w.old (6867 + m * 187 + 138 + (k * 16 + q)) to }
 {
     w[MESSAGES + m * MESSAGE + FLIGHT + (k * 16 + q)] = to;
-}
-
-// Sets every word to zero.
-pub fn clear(w: &mut [u16])
-    ensures { w.new ≡ replicate (length w.old) 0 }
-{
-    let mut i: usize = 0;
-    while i < w.len() {
-        w[i] = 0;
-        i += 1;
-    }
-}
-
-// Copies all of src over dst, which is as long.
-pub fn copy(src: &[u16], dst: &mut [u16])
-    requires { length src.now ≡ length dst.old }
-    ensures { dst.new ≡ src.now }
-{
-    let mut i: usize = 0;
-    while i < src.len() {
-        dst[i] = src[i];
-        i += 1;
-    }
 }
 
 // Fills a with the words from at on.
@@ -118,7 +100,7 @@ pub fn get(w: &[u16], at: usize, a: &mut [u16])
     ensures { a.new ≡ take (length a.old) (drop at w.now) }
 {
     let e = at + a.len();
-    copy(&w[at..e], a);
+    slices::copy(&w[at..e], a);
 }
 
 // Stores the words of a from at on.
@@ -127,5 +109,5 @@ pub fn put(w: &mut [u16], at: usize, a: &[u16])
     ensures { w.new ≡ splice w.old at a.now }
 {
     let e = at + a.len();
-    copy(a, &mut w[at..e]);
+    slices::copy(a, &mut w[at..e]);
 }

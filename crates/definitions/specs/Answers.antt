@@ -1,7 +1,7 @@
 -- What each case of an answer means: for every answer enum of the code, document 01's number and values
 -- ("Where an answer is an enum, there is a definition that gives this paper's number and values for each of
 -- its cases"). It rests on the replies of General. Assumes nothing.
-use Rattle.std.specs.Prelude.{ℕ}
+use Rattle.std.specs.Prelude.{ℕ, Result, Ok, Err}
 use Rattle.definitions.specs.General.{Reply, gives, refuses}
 use Rattle.definitions.specs.Machine.{Awaited, yes_now, message_of, process_alone}
 use Rattle.definitions.specs.Settle.{Ending, done, stopped}
@@ -9,20 +9,12 @@ use Rattle.definitions.specs.Words.{NewDeliveries}
 use Rattle.definitions.specs.Replay.{Counts}
 use Rattle.definitions.specs.declared.Refusal.{Refusal}
 use Rattle.definitions.specs.declared.Refusal.TheVariants.{WorldLength, WorldUnsound, BadSetup, Malformed, NoProcess, BadMask, NoMessage, BadTrust, Down, Full, NotInFlight, BothUp, JournalLength, WrongCheck, WrongForm, RecordsLength, OutputLength, NotWaiting, PairsLength}
-use Rattle.definitions.specs.declared.Outcome.{Outcome}
-use Rattle.definitions.specs.declared.Outcome.TheVariants as outcome
-use Rattle.definitions.specs.declared.Amount.{Amount}
-use Rattle.definitions.specs.declared.Amount.TheVariants as amount
-use Rattle.definitions.specs.declared.OrderNumber.{OrderNumber}
-use Rattle.definitions.specs.declared.OrderNumber.TheVariants as order_number
 use Rattle.definitions.specs.declared.Awaiting.{Awaiting}
 use Rattle.definitions.specs.declared.Awaiting.TheVariants as awaiting
 use Rattle.definitions.specs.declared.Previewing.{Previewing}
-use Rattle.definitions.specs.declared.Previewing.TheVariants as previewing
 use Rattle.definitions.specs.declared.Settling.{Settling}
 use Rattle.definitions.specs.declared.Settling.TheVariants as settling
 use Rattle.definitions.specs.declared.Replaying.{Replaying}
-use Rattle.definitions.specs.declared.Replaying.TheVariants as replaying
 
 -- The refusals by number.
 abbrev pub refusal_number : Refusal → ℕ
@@ -46,43 +38,44 @@ refusal_number OutputLength = 17
 refusal_number NotWaiting = 18
 refusal_number PairsLength = 19
 
--- Making a world, a step, writing and reading a journal: 0 where it is done, else the refusal's number.
-abbrev pub outcome_number : Outcome → ℕ
-outcome_number outcome.Taken = 0
-outcome_number (outcome.Refused r) = refusal_number r
+-- Whether a call is done, as making a world, a step, writing and reading a journal: 0 where it is, else the refusal's number.
+abbrev pub outcome_number : {A : Type 0} → Result A Refusal → ℕ
+outcome_number (Ok _) = 0
+outcome_number (Err r) = refusal_number r
 
--- How many, or the refusal.
-abbrev pub amount_reply : Amount → Reply ℕ
-amount_reply (amount.Is n) = gives n
-amount_reply (amount.Refused r) = refuses (refusal_number r)
+-- What gives a value: that value as f reads it, or the refusal.
+abbrev pub reply_by : {A B : Type 0} → (A → B) → Result A Refusal → Reply B
+reply_by f (Ok a) = gives (f a)
+reply_by f (Err r) = refuses (refusal_number r)
 
--- The order number of a message, or the refusal.
-abbrev pub order_number_reply : OrderNumber → Reply ℕ
-order_number_reply (order_number.Is n) = gives n
-order_number_reply (order_number.Refused r) = refuses (refusal_number r)
+-- How many, or the order number of a message.
+abbrev pub amount_reply : Result ℕ Refusal → Reply ℕ
+amount_reply = reply_by (λ n. n)
 
--- Whose message is awaited: yes, a process q with its message, q alone; or the refusal.
-abbrev pub awaiting_reply : Awaiting → Reply Awaited
-awaiting_reply awaiting.Nothing = gives yes_now
-awaiting_reply (awaiting.Message q x) = gives (message_of q x)
-awaiting_reply (awaiting.Process q) = gives (process_alone q)
-awaiting_reply (awaiting.Refused r) = refuses (refusal_number r)
+-- Whose message is awaited: yes, a process q with its message, q alone.
+abbrev pub awaited_of : Awaiting → Awaited
+awaited_of awaiting.Nothing = yes_now
+awaited_of (awaiting.Message q x) = message_of q x
+awaited_of (awaiting.Process q) = process_alone q
 
--- Preview: how many FIFO and how many causal deliveries the step adds, or the refusal.
-abbrev pub previewing_reply : Previewing → Reply NewDeliveries
-previewing_reply (previewing.Adds f c) = gives (record { fifo_number = f; causal_number = c })
-previewing_reply (previewing.Refused r) = refuses (refusal_number r)
+abbrev pub awaiting_reply : Result Awaiting Refusal → Reply Awaited
+awaiting_reply = reply_by awaited_of
 
--- Settle: the number of arrivals with done or stopped, or the refusal.
-abbrev pub settling_reply : Settling → Reply Ending
-settling_reply (settling.Done n) = gives (done n)
-settling_reply (settling.Stopped n) = gives (stopped n)
-settling_reply (settling.Refused r) = refuses (refusal_number r)
+-- Preview: how many FIFO and how many causal deliveries the step adds.
+abbrev pub previewing_reply : Result Previewing Refusal → Reply NewDeliveries
+previewing_reply = reply_by (λ d. record { fifo_number = d.fifo; causal_number = d.causal })
 
--- Replay: the number of records after the setup and how many were refused, or the refusal.
-abbrev pub replaying_reply : Replaying → Reply Counts
-replaying_reply (replaying.Done n k) = gives (record { steps = n; refused = k })
-replaying_reply (replaying.Refused r) = refuses (refusal_number r)
+-- Settle: the number of arrivals with done or stopped.
+abbrev pub ending_of : Settling → Ending
+ending_of (settling.Done n) = done n
+ending_of (settling.Stopped n) = stopped n
+
+abbrev pub settling_reply : Result Settling Refusal → Reply Ending
+settling_reply = reply_by ending_of
+
+-- Replay: the number of records after the setup and how many were refused.
+abbrev pub replaying_reply : Result Replaying Refusal → Reply Counts
+replaying_reply = reply_by (λ c. record { steps = c.steps; refused = c.refused })
 
 -- ---- the numbers that an exported function gives, read off a value
 -- Of how settle ended: the number of arrivals, and 1 for done or 0 for stopped.

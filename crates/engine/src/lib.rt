@@ -1,4 +1,4 @@
-// The functions that the archive exports, by `engine_c`. Each but the version returns 0, or the number of the refusal of
+// The archive: the functions that it exports. Each but the version returns 0, or the number of the refusal of
 // document 01; what else it answers goes out through a lent number. A refusal leaves everything that was lent as it was.
 #![tactic(auto)]
 
@@ -10,17 +10,17 @@ ghost use Rattle.definitions.specs.Journal.{needed_reply, write_refusal, written
 ghost use Rattle.definitions.specs.Replay.{Counts, replay_reply, replayed_words};
 ghost use Rattle.definitions.specs.Answers.{arrivals_in, done_in, kind_in, process_in, message_in, version};
 
-use definitions::Amount;
-
 // The version of the archive, as one number.
-pub fn wt_version() -> u32
+#[unsafe(no_mangle)]
+pub extern "C" fn wt_version() -> u32
     ensures answer { result ≡ version }
 {
     answers::of_version()
 }
 
 // The number of bytes of the journal of so many bytes of records: 0 or 16.
-pub fn wt_journal_length(size: usize, needed: &mut u32) -> u32
+#[unsafe(no_mangle)]
+pub extern "C" fn wt_journal_length(size: usize, needed: &mut u32) -> u32
     ensures answer { result ≡ refusal_in (needed_reply size) }
     ensures value { needed.new ≡ value_in (λ n. n) (needed_reply size) needed.old }
 {
@@ -28,7 +28,8 @@ pub fn wt_journal_length(size: usize, needed: &mut u32) -> u32
 }
 
 // Writes the journal of the records: 0, 16 or 17.
-pub fn wt_journal_write(records: &[u8], out: &mut [u8]) -> u32
+#[unsafe(no_mangle)]
+pub extern "C" fn wt_journal_write(records: &[u8], out: &mut [u8]) -> u32
     ensures answer { result ≡ write_refusal (length records.now) (length out.old) }
     ensures bytes { out.new ≡ written records.now out.old }
 {
@@ -36,7 +37,8 @@ pub fn wt_journal_write(records: &[u8], out: &mut [u8]) -> u32
 }
 
 // The number of records of a journal: 0, 13, 14 or 15.
-pub fn wt_journal_count(journal: &[u8], count: &mut u32) -> u32
+#[unsafe(no_mangle)]
+pub extern "C" fn wt_journal_count(journal: &[u8], count: &mut u32) -> u32
     ensures answer { result ≡ refusal_in (count_reply journal.now) }
     ensures value { count.new ≡ value_in (λ n. n) (count_reply journal.now) count.old }
 {
@@ -44,7 +46,8 @@ pub fn wt_journal_count(journal: &[u8], count: &mut u32) -> u32
 }
 
 // Reads a journal into its records: 0, 13, 14, 15 or 17.
-pub fn wt_journal_read(journal: &[u8], records: &mut [u8]) -> u32
+#[unsafe(no_mangle)]
+pub extern "C" fn wt_journal_read(journal: &[u8], records: &mut [u8]) -> u32
     ensures answer { result ≡ read_refusal journal.now (length records.old) }
     ensures bytes { records.new ≡ read_out journal.now records.old }
 {
@@ -52,7 +55,8 @@ pub fn wt_journal_read(journal: &[u8], records: &mut [u8]) -> u32
 }
 
 // Makes the world of a setup record in the lent words: 0, 1 or 3.
-pub fn wt_world_make(w: &mut [u16], setup: &[u8]) -> u32
+#[unsafe(no_mangle)]
+pub extern "C" fn wt_world_make(w: &mut [u16], setup: &[u8]) -> u32
     ensures answer { result ≡ making_refusal w.old setup.now }
     ensures words { w.new ≡ made_words w.old setup.now }
 {
@@ -60,7 +64,8 @@ pub fn wt_world_make(w: &mut [u16], setup: &[u8]) -> u32
 }
 
 // Takes a step: 0, 1, 2 or 4 to 12.
-pub fn wt_step(w: &mut [u16], step: &[u8]) -> u32
+#[unsafe(no_mangle)]
+pub extern "C" fn wt_step(w: &mut [u16], step: &[u8]) -> u32
     ensures answer { result ≡ step_refusal w.old step.now }
     ensures words { w.new ≡ stepped_words w.old step.now }
 {
@@ -69,7 +74,8 @@ pub fn wt_step(w: &mut [u16], step: &[u8]) -> u32
 
 // Shows on the second slice what a step would leave, and gives how many FIFO and how many causal deliveries it adds: 0, 1,
 // 2 or 4 to 12.
-pub fn wt_preview(
+#[unsafe(no_mangle)]
+pub extern "C" fn wt_preview(
     w: &[u16],
     step: &[u8],
     second: &mut [u16],
@@ -85,23 +91,31 @@ pub fn wt_preview(
 }
 
 // Where the FIFO or the causal log of a process stands among the lent words, and its length: 0, 1, 2 or 5.
-pub fn wt_world_log(w: &[u16], p: u32, causal: bool, start: &mut u32, items: &mut u32) -> u32
+#[unsafe(no_mangle)]
+pub extern "C" fn wt_world_log(
+    w: &[u16],
+    p: u32,
+    causal: bool,
+    start: &mut u32,
+    items: &mut u32,
+) -> u32
     ensures answer { result ≡ refusal_in (length_reply w.now p causal) }
     ensures start { start.new ≡ value_in (λ _. log_start p causal) (length_reply w.now p causal) start.old }
     ensures items { items.new ≡ value_in (λ n. n) (length_reply w.now p causal) items.old }
 {
     match reading::log_length(w, p as usize, causal) {
-        Amount::Is(n) => {
+        Ok(n) => {
             *start = logs::start(p as usize, causal) as u32;
             *items = n as u32;
             0
         }
-        Amount::Refused(r) => answers::number(r),
+        Err(r) => u32::from(r),
     }
 }
 
 // The order number of a message: 0, 1, 2 or 7.
-pub fn wt_order(w: &[u16], m: u32, number: &mut u32) -> u32
+#[unsafe(no_mangle)]
+pub extern "C" fn wt_order(w: &[u16], m: u32, number: &mut u32) -> u32
     ensures answer { result ≡ refusal_in (order_reply w.now m) }
     ensures value { number.new ≡ value_in (λ n. n) (order_reply w.now m) number.old }
 {
@@ -110,7 +124,15 @@ pub fn wt_order(w: &[u16], m: u32, number: &mut u32) -> u32
 
 // Whose message is awaited by a message in the FIFO log of a process and not in its causal log: kind 0, none; 1, that of a
 // process and a message; 2, that of a process alone. What a kind does not have is left as lent: 0, 1, 2, 5, 7 or 18.
-pub fn wt_awaited(w: &[u16], p: u32, m: u32, kind: &mut u32, of: &mut u32, awaited: &mut u32) -> u32
+#[unsafe(no_mangle)]
+pub extern "C" fn wt_awaited(
+    w: &[u16],
+    p: u32,
+    m: u32,
+    kind: &mut u32,
+    of: &mut u32,
+    awaited: &mut u32,
+) -> u32
     ensures answer { result ≡ refusal_in (awaited_reply w.now p m) }
     ensures kind { kind.new ≡ value_in kind_in (awaited_reply w.now p m) kind.old }
     ensures of { of.new ≡ value_in (process_in of.old) (awaited_reply w.now p m) of.old }
@@ -122,7 +144,13 @@ pub fn wt_awaited(w: &[u16], p: u32, m: u32, kind: &mut u32, of: &mut u32, await
 
 // Writes for each pair of messages 1 if the first precedes the second, else 0, and gives how many different messages they
 // name: 0, 1, 2, 7 or 19.
-pub fn wt_precedes(w: &[u16], pairs: &[u16], answers: &mut [u8], different: &mut u32) -> u32
+#[unsafe(no_mangle)]
+pub extern "C" fn wt_precedes(
+    w: &[u16],
+    pairs: &[u16],
+    answers: &mut [u8],
+    different: &mut u32,
+) -> u32
     ensures answer { result ≡ refusal_in (precedes_reply w.now pairs.now answers.old) }
     ensures bytes { answers.new ≡ precedes_bytes w.now pairs.now answers.old }
     ensures different { different.new ≡ value_in (λ n. n) (precedes_reply w.now pairs.now answers.old) different.old }
@@ -131,7 +159,8 @@ pub fn wt_precedes(w: &[u16], pairs: &[u16], answers: &mut [u8], different: &mut
 }
 
 // Makes at most `budget` arrivals; gives their number, and 1 for done or 0 for stopped: 0, 1 or 2.
-pub fn wt_settle(w: &mut [u16], budget: u32, arrivals: &mut u32, done: &mut u32) -> u32
+#[unsafe(no_mangle)]
+pub extern "C" fn wt_settle(w: &mut [u16], budget: u32, arrivals: &mut u32, done: &mut u32) -> u32
     ensures answer { result ≡ refusal_in (settle_reply lowest_first w.old budget) }
     ensures words { w.new ≡ settled_words lowest_first w.old budget }
     ensures arrivals { arrivals.new ≡ value_in arrivals_in (settle_reply lowest_first w.old budget) arrivals.old }
@@ -140,8 +169,14 @@ pub fn wt_settle(w: &mut [u16], budget: u32, arrivals: &mut u32, done: &mut u32)
     telling::settling(calls::settle(w, budget), arrivals, done)
 }
 
-// The same, the processes served in turn: 0, 1 or 2.
-pub fn wt_settle_fair(w: &mut [u16], budget: u32, arrivals: &mut u32, done: &mut u32) -> u32
+// The same, the processes served in turn: 0, 1 or 2. An export of its own, as C calls it.
+#[unsafe(no_mangle)]
+pub extern "C" fn wt_settle_fair(
+    w: &mut [u16],
+    budget: u32,
+    arrivals: &mut u32,
+    done: &mut u32,
+) -> u32
     ensures answer { result ≡ refusal_in (settle_reply by_turns w.old budget) }
     ensures words { w.new ≡ settled_words by_turns w.old budget }
     ensures arrivals { arrivals.new ≡ value_in arrivals_in (settle_reply by_turns w.old budget) arrivals.old }
@@ -151,7 +186,13 @@ pub fn wt_settle_fair(w: &mut [u16], budget: u32, arrivals: &mut u32, done: &mut
 }
 
 // Replays a journal; gives the number of records after its setup, and how many were refused: 0, 1, 3, 13, 14 or 15.
-pub fn wt_replay(w: &mut [u16], journal: &[u8], steps: &mut u32, refused: &mut u32) -> u32
+#[unsafe(no_mangle)]
+pub extern "C" fn wt_replay(
+    w: &mut [u16],
+    journal: &[u8],
+    steps: &mut u32,
+    refused: &mut u32,
+) -> u32
     ensures answer { result ≡ refusal_in (replay_reply w.old journal.now) }
     ensures words { w.new ≡ replayed_words w.old journal.now }
     ensures steps { steps.new ≡ value_in (λ (c : Counts). c.steps) (replay_reply w.old journal.now) steps.old }

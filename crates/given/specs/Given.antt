@@ -1,24 +1,34 @@
 -- What a step as the code holds it means, and how its bytes are read, kind by kind. Assumes nothing.
-use Rattle.std.specs.Prelude.{◌≡◌, refl, Bool, true, false, not, ◌&&◌, ◌||◌, List, ℕ, ◌≤◌, ltb, eqb, length}
+use Rattle.std.specs.Prelude.{◌≡◌, refl, Bool, true, false, not, ◌&&◌, ◌||◌, List, ℕ, ◌≤◌, ltb, eqb, length, Option, Some, None}
 use Rattle.std.proofs.Common.{sym, ap, ◌∙◌, eq-eqb, ne_eqb, lt-ltb, le-ltb}
 use Rattle.definitions.specs.General.{pick, every, byte, low_first}
 use Rattle.definitions.specs.Steps.{Step, multicasts, arrives, loses, trusts, crashes, malformed, zeros_from, read}
 use Rattle.base.specs.Search.{every_intro}
+use Rattle.cells.specs.declared.Letter.{Letter}
 use Rattle.given.specs.declared.Given.{Given}
 use Rattle.given.specs.declared.Given.TheVariants as given
 
 -- The step that it means.
 abbrev pub step_of : Given → Step
 step_of (given.Multicast p groups o) = multicasts p groups o
-step_of (given.Arrival k m q p) = arrives k m q p
-step_of (given.Loss k m q p) = loses k m q p
+step_of (given.Arrival l) = arrives l.kind l.message l.from l.to
+step_of (given.Loss l) = loses l.kind l.message l.from l.to
 step_of (given.Trust p set) = trusts p set
 step_of (given.Crash p) = crashes p
-step_of given.Malformed = malformed
 
--- The bytes of a letter are well formed.
+-- The step that bytes ask for, which is none where they are malformed.
+abbrev pub asked_for : Option Given → Step
+asked_for (Some g) = step_of g
+asked_for None = malformed
+
+-- The bytes of a letter are well formed; and then it is this.
 abbrev pub letter_good : List ℕ → Bool
 letter_good bytes = ltb (byte bytes 1) 3 && zeros_from bytes 5
+
+abbrev pub letter_in : List ℕ → Option Letter
+letter_in bytes =
+    pick (letter_good bytes)
+    (Some (record { kind = byte bytes 1; message = byte bytes 2; from = byte bytes 3; to = byte bytes 4 })) None
 
 -- ---- zeros from i on
 -- byte j passes
@@ -91,10 +101,25 @@ pub letter_as : (lost : Bool) (bytes : List ℕ)
 letter_as true bytes = refl
 letter_as false bytes = refl
 
--- operands that are the same
-pub same_letter : (lost : Bool) {k m q p x y z u : ℕ} → k ≡ x → m ≡ y → q ≡ z → p ≡ u
-    → letter_step lost k m q p ≡ letter_step lost x y z u
-same_letter lost a b c d = cc
+-- The step that it is, lost or arrived.
+abbrev pub letter_asked : Bool → Option Letter → Step
+letter_asked lost (Some l) = letter_step lost l.kind l.message l.from l.to
+letter_asked lost None = malformed
+
+pub letter_read : (lost : Bool) (bytes : List ℕ) (o : Option Letter) → length bytes ≡ 8 → byte bytes 0 ≡ pick lost 3 2
+    → o ≡ letter_in bytes → letter_asked lost o ≡ read bytes
+letter_read lost bytes o l k e =
+    ap (letter_asked lost) e ∙ go (letter_good bytes) ∙ sym (read_kind bytes (pick lost 3 2) l k ∙ letter_as lost bytes)
+  where
+    go : (b : Bool) → letter_asked lost (pick b (Some (record {
+      kind = byte bytes 1;
+      message = byte bytes 2;
+      from = byte bytes 3;
+      to = byte bytes 4;
+    })) None)
+        ≡ pick b (letter_step lost (byte bytes 1) (byte bytes 2) (byte bytes 3) (byte bytes 4)) malformed
+    go true = refl
+    go false = refl
 
 -- ---- a multicast
 pub same_multicast : {p groups o x y z : ℕ} → p ≡ x → groups ≡ y → o ≡ z

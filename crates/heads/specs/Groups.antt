@@ -1,10 +1,11 @@
 -- The groups of the processes by their set. All groups are below 8 exactly when no group has a bit from 3 on;
 -- they leave no gap exactly when the set has, with each group but 0, the one below it. Assumes nothing.
-use Rattle.std.specs.Prelude.{◌≡◌, refl, Bool, true, false, ◌&&◌, ◌||◌, ℕ, zero, suc, ◌+◌, ◌/◌, ◌%◌, ◌^◌, ◌<◌, ltb}
+use Rattle.std.specs.Prelude.{◌≡◌, refl, Bool, true, false, cond, ◌&&◌, ◌||◌, Option, Some, None, is_some, ℕ, zero, suc, ◌+◌, ◌/◌, ◌%◌, ◌^◌, ◌<◌, ltb}
 use Rattle.std.proofs.Common.{sym, ap₂, ◌∙◌, subst, arith, eq-eqb, eqb-true, ltb-true, ltb-false, lt-ltb}
 use Rattle.std.proofs.Math.Path.{ap}
 use Rattle.std.specs.Int.Bits.{bit_or, bit_and}
 use Rattle.std.proofs.lemmas.Nat.{or_shr}
+use Rattle.std.proofs.lemmas.Option.{cond_some}
 use Rattle.std.proofs.Math.Dec.{eqb}
 use Rattle.definitions.specs.General.{every, some, bit, with}
 use Rattle.definitions.specs.World.{State, size, group, is_process, has_group}
@@ -20,10 +21,10 @@ pub record GroupSet (s : State) (n set any : ℕ) : Type 0 where
   pub have : (g : ℕ) → bit set g ≡ some n (λ p. eqb (s (group p) % 8) g)
   pub high : eqb (any / 2 ^ 3) 0 ≡ every n (λ p. eqb (s (group p) / 2 ^ 3) 0)
 
--- Whether the groups of the first n processes may be; and then the set is that of the groups that exist.
-pub record GroupTest (s : State) (n : ℕ) (good : Bool) (set : ℕ) : Type 0 where
-  pub is_good : good ≡ every n (λ p. fine s (group p))
-  pub exist : good ≡ true → (g : ℕ) → bit set g ≡ has_group s g
+-- There is a set exactly if the groups of the first n processes may be; it is that of the groups that exist.
+pub record GroupTest (s : State) (n : ℕ) (r : Option ℕ) : Type 0 where
+  pub is_good : is_some r ≡ every n (λ p. fine s (group p))
+  pub exist : (set : ℕ) → r ≡ Some set → (g : ℕ) → bit set g ≡ has_group s g
 
 -- ---- the loop
 pub group_none : (s : State) → GroupSet s 0 0 0
@@ -131,17 +132,22 @@ module _ (s : State) (n set any : ℕ) (en : n ≡ s size) (hs : set < 2 ^ 16) (
             (parts z.0 z.1)) g
             (omega arith)
 
-  pub group_test : GroupTest s n (eqb (any / 2 ^ 3) 0 && eqb (bit_and (set / 2 ^ 1) set) (set / 2 ^ 1)) set
-  group_test = record {
-    is_good = same (eqb (any / 2 ^ 3) 0 && eqb (bit_and (set / 2 ^ 1) set) (set / 2 ^ 1))
+  pub group_test : (good : Bool) → (eqb (any / 2 ^ 3) 0 && eqb (bit_and (set / 2 ^ 1) set) (set / 2 ^ 1)) ≡ good
+      → GroupTest s n (cond good (Some set) None)
+  group_test good q = record {
+    is_good = some_if good ∙ sym q ∙ same (eqb (any / 2 ^ 3) 0 && eqb (bit_and (set / 2 ^ 1) set) (set / 2 ^ 1))
         (every n (λ p. fine s (group p)))
         (λ e. every_intro n (λ p. fine s (group p)) (fine_all (low_of (first e)) (second e)))
         (λ e. let f : (p : ℕ) → p < n → fine s (group p) ≡ true = every_true n (λ p. fine s (group p)) e in
         both_i (eqb (any / 2 ^ 3) 0) (eqb (bit_and (set / 2 ^ 1) set) (set / 2 ^ 1)) (any_fine f)
         (eq-eqb (bit_and (set / 2 ^ 1) set) (set / 2 ^ 1) (closed f)));
-    exist = λ e. exact (low_of (first e));
+    exist = λ x e g. let z = cond_some good set x e in ap (λ (y : ℕ). bit y g) (sym z.1) ∙ exact (low_of (first (q ∙ z.0))) g;
   }
     where
+      some_if : (b : Bool) → is_some (cond b (Some set) None) ≡ b
+      some_if true = refl
+      some_if false = refl
+
       first : (eqb (any / 2 ^ 3) 0 && eqb (bit_and (set / 2 ^ 1) set) (set / 2 ^ 1)) ≡ true
           → eqb (any / 2 ^ 3) 0 ≡ true
       first e = both_l (eqb (any / 2 ^ 3) 0) (eqb (bit_and (set / 2 ^ 1) set) (set / 2 ^ 1)) e

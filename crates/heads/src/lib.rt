@@ -8,6 +8,9 @@ ghost use Rattle.heads.specs.Known.{Sized, Grouped};
 ghost use Rattle.heads.specs.Groups.{GroupSet, GroupTest};
 ghost use Rattle.heads.specs.Messages.{head_ok, heads_fine};
 
+use cells::Words;
+use masks::Set;
+
 // Whether n, the count and the word for a later rule obey the limits.
 pub fn header(n: usize, count: usize, rule: usize) -> bool
     ensures { result ≡ (((leb 1 n && leb n 16) && leb count 64) && eqb rule 0) }
@@ -22,41 +25,29 @@ struct Gathered {
     any: usize,
 }
 
-fn gather(w: &[u16], n: usize, count: usize) -> Gathered
+fn gather(w: &Words, n: usize, count: usize) -> Gathered
     requires { Sized w.now n count }
     ensures { GroupSet (view w.now) n result.set result.any }
 {
     let mut set: u16 = 0;
     let mut any: usize = 0;
-    let mut p: usize = 0;
-    while p < n {
+    for p in 0..n {
         let g = cells::word(w, cells::PROCESSES + p * cells::PROCESS);
-        any = any | g;
-        set = masks::set(set, g % 8);
-        p += 1;
+        any |= g;
+        set = set.join(g % 8);
     }
-    Gathered { set: set, any: any }
+    Gathered { set, any }
 }
 
-// Whether the groups are at most 8 and numbered from 0 without a gap; and then their set.
-#[derive(Drop)]
-pub struct Numbered {
-    pub good: bool,
-    pub set: u16,
-}
-
-pub fn groups(w: &[u16], n: usize, count: usize) -> Numbered
+// The set of the groups, where they are at most 8 and numbered from 0 without a gap.
+pub fn groups(w: &Words, n: usize, count: usize) -> Option<u16>
     requires { Sized w.now n count }
-    ensures { GroupTest (view w.now) n result.good result.set }
+    ensures { GroupTest (view w.now) n result }
 {
-    let g = gather(w, n, count);
-    let set = g.set;
-    let any = g.any;
+    let Gathered { set, any } = gather(w, n, count);
     let above = set >> 1;
-    Numbered {
-        good: ((any >> 3) == 0) & (above & set == above),
-        set: set,
-    }
+    let good = ((any >> 3) == 0) & (above & set == above);
+    if good { Some(set) } else { None }
 }
 
 // Whether a message may have this sender and this mask.
@@ -67,17 +58,15 @@ fn head(sender: usize, mask: u16, n: usize, groups: u16) -> bool
 }
 
 // Whether each message has an existing sender and a non-empty mask of existing groups.
-pub fn messages(w: &[u16], n: usize, count: usize, groups: u16) -> bool
+pub fn messages(w: &Words, n: usize, count: usize, groups: u16) -> bool
     requires sized { Sized w.now n count }
     requires grouped { Grouped (view w.now) groups }
     ensures { result ≡ heads_fine (view w.now) count }
 {
     let mut ok = true;
-    let mut m: usize = 0;
-    while m < count {
+    for m in 0..count {
         let at = cells::MESSAGES + m * cells::MESSAGE;
-        ok = ok & head(cells::word(w, at), w[at + cells::MASK], n, groups);
-        m += 1;
+        ok &= head(cells::word(w, at), w[at + cells::MASK], n, groups);
     }
     ok
 }

@@ -1,8 +1,9 @@
--- The letter that the code finds, as the choice of the definitions. Assumes nothing.
+-- The letter that the search finds, as the definitions have it. Assumes nothing.
+use Rattle.std.specs.Prelude.{Option, Some, None}
 use Rattle.definitions.specs.Settle.{Choice, letter, nothing}
-use Rattle.letters.specs.declared.Letter.{Letter}
-use Rattle.letters.specs.declared.Letter.TheVariants.{At, Nothing}
+use Rattle.cells.specs.declared.Letter.{Letter}
 
-abbrev pub choice_of : Letter → Choice
-choice_of (At k m q p) = letter k m q p
-choice_of Nothing = nothing
+-- The letter, or that there is none.
+abbrev pub choice_of : Option Letter → Choice
+choice_of (Some l) = letter l.kind l.message l.from l.to
+choice_of None = nothing

@@ -15,29 +15,6 @@ pub record Filled (t : List ℕ) (a n v : ℕ) (new : List ℕ) : Type 0 where
   pub before : (j : ℕ) → j < a → get_or new j 0 ≡ get_or t j 0
   pub after : (j : ℕ) → a + n ≤ j → get_or new j 0 ≡ get_or t j 0
 
-pub filled_none : (t : List ℕ) (a v : ℕ) → Filled t a 0 v t
-filled_none t a v = record {
-  long = refl;
-  inside = λ i l. absurd (omega arith);
-  before = λ j l. refl;
-  after = λ j l. refl;
-}
-
-pub filled_more : (t : List ℕ) (a i v : ℕ) (now : List ℕ) → a + i < length t → Filled t a i v now
-    → Filled t a (i + 1) v (set now (a + i) v)
-filled_more t a i v now l h = record {
-  long = simp length-set h.long;
-  inside = λ j k. go j k (ℕ_discrete j i);
-  before = λ j k. get_or-set_other now (a + i) j v 0 (λ e. omega arith) ∙ h.before j k;
-  after = λ j k. get_or-set_other now (a + i) j v 0 (λ e. omega arith) ∙ h.after j (omega arith);
-}
-  where
-    go : (j : ℕ) → j < i + 1 → Dec (j ≡ i) → get_or (set now (a + i) v) (a + j) 0 ≡ v
-    go j k (yes e) =
-        ap (λ (x : ℕ). get_or (set now (a + i) v) (a + x) 0) e
-        ∙ get_or-set_same now (a + i) v 0 (let z = h.long in omega arith)
-    go j k (no d) = get_or-set_other now (a + i) (a + j) v 0 (λ e. d (omega arith)) ∙ h.inside j (omega arith)
-
 -- ---- a table of the limits; of the groups, those below k as yet
 pub record Partial (n groups count k : ℕ) (t : List ℕ) : Type 0 where
   pub long : length t ≡ 280

@@ -8,12 +8,12 @@ use Rattle.std.specs.Int.Bits.{bit_and, bit_or}
 use lib.ListN.{length, get_or, set}
 use Rattle.definitions.specs.General.{pick, every, tally, in_at, absent, bit}
 use Rattle.base.specs.Tests.{both, clash, same, and_swap, or_false}
-use Rattle.base.specs.Search.{every_true, every_intro, every_next}
+use Rattle.base.specs.Search.{every_true, every_intro, every_next, every_cong}
 use Rattle.base.specs.Count.{tally_le, tally_zero, tally_cong, tally_falls, absent_in, in_absent}
 use Rattle.base.specs.Bits.{bit_of_and}
 use Rattle.base.specs.Sets.{subset_e, subset_i}
 use Rattle.ranges.specs.Laws.{every_both}
-use Rattle.sets.specs.Members.{Members, members_none}
+use Rattle.sets.specs.Members.{Members, members_none, members_cong}
 use Rattle.sets.specs.Powers.{Powers, members_or}
 use Rattle.logtest.specs.Log.{Passed, item_ok}
 
@@ -35,6 +35,22 @@ passed_none log to from counts l h = record {
   common = λ p k. every_true 16 (bit 65535) ones p k;
   long = l;
   counted = h;
+}
+
+-- the same of as many items that are the same
+pub passed_cong : (f g : ℕ → ℕ) (n n' : ℕ) {to from counts : List ℕ} {set all : ℕ} → n ≡ n' → ((i : ℕ) → i < n' → f i ≡ g i)
+    → Passed f n to from set all counts → Passed g n' to from set all counts
+passed_cong f g n n' {to} {from} {counts} {set} e s h = record {
+  members = members_cong set n n' f g e s h.members;
+  common = λ p k. h.common p k
+      ∙ every_cong n (λ i. bit (get_or to (f i) 0) p) (λ i. bit (get_or to (g i) 0) p)
+      (λ i l. ap (λ (x : ℕ). bit (get_or to x 0) p) (s i (omega arith)))
+      ∙ ap (λ (x : ℕ). every x (λ i. bit (get_or to (g i) 0) p)) e;
+  long = h.long;
+  counted = λ q k. h.counted q k
+      ∙ tally_cong n (λ i. eqb (get_or from (f i) 0) q) (λ i. eqb (get_or from (g i) 0) q)
+      (λ i l. ap (λ (x : ℕ). eqb (get_or from x 0) q) (s i (omega arith)))
+      ∙ ap (λ (x : ℕ). tally x (λ i. eqb (get_or from (g i) 0) q)) e;
 }
 
 pub passed_more : (log : ℕ → ℕ) (i : ℕ) (to from bits : List ℕ) (set all : ℕ) (t t' : List ℕ) (m q v : ℕ) → Powers bits

@@ -12,10 +12,10 @@ log_at w a i = get_or w (a + i) 0
 unfoldable pub item_ok : (ℕ → ℕ) → (ℕ → Bool) → ℕ → Bool
 item_ok log test i = test (log i) && absent i (log i) log
 
--- The n items from a on are below 64, and so many have their places in the tables of addressees, senders and bits.
-pub record Passable (w : List ℕ) (a n : ℕ) (to from bits : List ℕ) : Type 0 where
-  pub items : Low w a n
-  pub few : n ≤ 64
+-- The items of a log are below 64, and so many have their places in the tables of addressees, senders and bits.
+pub record Passable (log to from bits : List ℕ) : Type 0 where
+  pub items : Low log
+  pub few : length log ≤ 64
   pub addressees : length to ≡ 64
   pub senders : length from ≡ 64
   pub small : (m : ℕ) → m < 64 → get_or from m 0 < 16

@@ -9,7 +9,6 @@ use Rattle.definitions.specs.Steps.{read, refusal, accepted, step}
 use Rattle.definitions.specs.Words.{step_words, stepped_words, log_length, log_growth, preview_refusal, previewed_words, new_deliveries, preview_reply}
 use Rattle.definitions.specs.Previews.{step_process}
 use Rattle.base.specs.Refusals.{refused_reply}
-use Rattle.world.specs.Layout.{length_encode}
 use Rattle.world.specs.Calls.{preview_judged, preview_taken, preview_refused}
 use Rattle.world.specs.SoundLaws.{size_high, count_high, fifo_length_high, causal_length_high}
 use Rattle.keeps.specs.Keeps.{step_sound, SoundWords, sound_refusal}
@@ -76,12 +75,9 @@ module _ {w bytes second u : List ℕ} {p : ℕ} (h : Done w bytes second u p) w
 
   -- they can be counted
   pub countable : (log : Bool)
-      → (length w ≡ 20480) × (length u ≡ 20480) × (p < 16)
-      × (log_length s p log ≤ log_length (view u) p log) × (log_length (view u) p log ≤ 64)
+      → (p < 16) × (log_length s p log ≤ log_length (view u) p log) × (log_length (view u) p log ≤ 64)
   countable log =
       let o : log_length s p log ≤ log_length t p log = rw h.at (step_onward s (read bytes) log).longer in (
-        h.lent.world.long,
-        ap length h.leaves ∙ length_encode t,
         low,
         omega (arith, lengths log, o),
         omega (arith, lengths log, short log),

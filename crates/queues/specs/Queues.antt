@@ -2,7 +2,7 @@
 -- 16 k + q for kind k from q; for each process the set of messages with such a place; the set of processes with such a
 -- message. Which letters they are is any test of a message, a place and a process. Assumes nothing.
 use Rattle.std.specs.Prelude.{◌≡◌, refl, Bool, true, false, not, ◌&&◌, ◌||◌, List, ◌≢◌, ◌⊎◌, ℕ, ◌+◌, ◌*◌, ◌/◌, ◌^◌, ◌≤◌, ◌<◌, ltb, eqb, length, get_or, set, replicate}
-use Rattle.std.proofs.Common.{sym, ap, ap₂, ◌∙◌, subst, inl, inr, arith, length-set, get_or-set_same, get_or-set_other, lt-ltb, le-ltb, ltb-true, ne_eqb, eqb-true}
+use Rattle.std.proofs.Common.{sym, ap, ap₂, ◌∙◌, subst, inl, inr, arith, length-set, get_or-set_same, get_or-set_other, lt-ltb, le-ltb, ltb-true, ltb-false, ne_eqb, eqb-true}
 use Rattle.std.proofs.Math.Decide.{ℕ_discrete}
 use Rattle.std.proofs.lemmas.List.{length-replicate, get_or-replicate, set-get_or}
 use Rattle.definitions.specs.General.{pick, bit, with, without}
@@ -53,6 +53,9 @@ no_member set h = go (le_or_lt 64 (lowest set))
 
 zero_none : ltb (lowest 0) 64 ≡ false
 zero_none = no_member 0 (λ i _. bit_zero i)
+
+pub none_lowest : (set : ℕ) → set ≡ 0 → 64 ≤ lowest set
+none_lowest set e = ltb-false (lowest set) 64 (ap (λ (n : ℕ). ltb (lowest n) 64) e ∙ zero_none)
 
 -- ---- zeros are the queues of no letter
 pub none_queued : Queues (λ _ _ _. false) (replicate 1041 0)

@@ -3,68 +3,73 @@
 // One joins, one leaves, all of one place are noted; who is served next.
 #![tactic(auto)]
 
-ghost use Rattle.std.specs.Prelude.{◌≡◌, ◌≤◌, ◌<◌, length};
+ghost use Rattle.std.specs.Prelude.{◌≡◌, ◌≤◌, ◌<◌, MatchOption};
 ghost use Rattle.queues.specs.Queues.{Places, Queues, joined, parted, noted, served_of};
 
-// Where the sets of messages begin, where the set of processes is, and how many numbers there are.
+use masks::Set;
+
+// The numbers of the queues.
+pub type Table = [u64; 1041];
+
+// Where the sets of messages begin, and where the set of processes is.
 pub const MESSAGES: usize = 1024;
 
 pub const WAITING: usize = 1040;
 
-pub const LENGTH: usize = 1041;
-
 // The letter of message m at a place joins those to p.
-fn join(a: &mut [u64], m: usize, place: usize, p: usize)
-    requires { (length a.old ≡ 1041) × (m < 64) × (place < 48) × (p < 16) }
-    ensures { (length a.new ≡ 1041) × ((f : Places) → Queues f a.old → Queues (joined f m place p) a.new) }
+fn join(a: &mut Table, m: usize, place: usize, p: usize)
+    requires { (m < 64) × (place < 48) × (p < 16) }
+    ensures { (f : Places) → Queues f a.old → Queues (joined f m place p) a.new }
 {
-    let places = sets::join(a[m * 16 + p], place);
-    let messages = sets::join(a[MESSAGES + p], m);
-    let waiting = sets::join(a[WAITING], p);
+    let places = a[m * 16 + p].join(place);
+    let messages = a[MESSAGES + p].join(m);
+    let waiting = a[WAITING].join(p);
     a[m * 16 + p] = places;
     a[MESSAGES + p] = messages;
     a[WAITING] = waiting;
 }
 
 // The letter of message m at a place leaves those to p, the message with its last place, and p with its last message.
-pub fn leave(a: &mut [u64], m: usize, place: usize, p: usize)
-    requires { (length a.old ≡ 1041) × (m < 64) × (place < 48) × (p < 16) }
-    ensures { (length a.new ≡ 1041) × ((f : Places) → Queues f a.old → Queues (parted f m place p) a.new) }
+pub fn leave(a: &mut Table, m: usize, place: usize, p: usize)
+    requires { (m < 64) × (place < 48) × (p < 16) }
+    ensures { (f : Places) → Queues f a.old → Queues (parted f m place p) a.new }
 {
-    let places = sets::drop(a[m * 16 + p], place);
+    let places = a[m * 16 + p].drop(place);
     a[m * 16 + p] = places;
-    if sets::lowest(places) < 64 {
+    if places != 0 {
         return;
     }
-    let messages = sets::drop(a[MESSAGES + p], m);
+    let messages = a[MESSAGES + p].drop(m);
     a[MESSAGES + p] = messages;
-    if sets::lowest(messages) < 64 {
+    if messages != 0 {
         return;
     }
-    a[WAITING] = sets::drop(a[WAITING], p);
+    a[WAITING] = a[WAITING].drop(p);
 }
 
 // The letters of message m at a place join those to each receiver.
-pub fn note(a: &mut [u64], m: usize, place: usize, receivers: u16)
-    requires { (length a.old ≡ 1041) × (m < 64) × (place < 48) }
-    ensures { (length a.new ≡ 1041) × ((f : Places) → Queues f a.old → Queues (noted f m place receivers) a.new) }
+pub fn note(a: &mut Table, m: usize, place: usize, receivers: u16)
+    requires { (m < 64) × (place < 48) }
+    ensures { (f : Places) → Queues f a.old → Queues (noted f m place receivers) a.new }
 {
     let mut left = receivers;
     while left != 0 {
-        let p = masks::lowest(left) as usize;
-        left = masks::clear(left, p);
+        let p = left.lowest();
+        left = left.drop(p);
         join(a, m, place, p);
     }
 }
 
-// The first of the waiting processes from a turn on, or else the first of all; 64 where none waits.
-pub fn served(waiting: u64, turn: usize) -> usize
+// The first of the waiting processes from a turn on, or else the first of all; none where none waits.
+pub fn served(waiting: u64, turn: usize) -> Option<usize>
     requires { turn ≤ 16 }
-    ensures { result ≡ served_of waiting turn }
+    ensures { MatchOption result (64 ≤ served_of waiting turn) (λ p. (p < 64) × (p ≡ served_of waiting turn)) }
 {
-    let ahead = sets::lowest(waiting >> turn);
-    if ahead < 64 {
-        return turn + ahead;
-    }
-    sets::lowest(waiting)
+    let ahead = (waiting >> turn).lowest();
+    let p = if ahead < 64 {
+        turn + ahead
+    } else {
+        waiting.lowest()
+    };
+    if p < 64 { Some(p) } else { None }
 }

@@ -1,12 +1,15 @@
 -- Laws of tests over a run: two runs side by side, one test more of some that pass, and what is gathered by or. Assumes nothing.
-use Rattle.std.specs.Prelude.{◌≡◌, refl, Bool, true, false, not, ◌&&◌, ◌||◌, ℕ, ◌+◌, ◌-◌, ◌<◌, ltb, leb, eqb}
+use Rattle.std.specs.Prelude.{◌≡◌, refl, Bool, true, false, not, ◌&&◌, ◌||◌, ℕ, ◌+◌, ◌-◌, ◌≤◌, ◌<◌, ltb, leb, eqb}
 use Rattle.std.proofs.Common.{sym, ap, ap₂, ◌∙◌, arith, ltb-true, ltb-false, eq-eqb, ne_eqb, eqb-true, le-leb, leb-true}
 use Rattle.std.proofs.Math.Decide.{ℕ_discrete}
 use Rattle.std.specs.Int.Bits.{bit_or, bit_and, or_add_and}
 use Rattle.std.proofs.lemmas.Nat.{and_le_l, and_le_r}
+use Rattle.std.specs.Prelude.{List, length, get_or, take, drop}
+use Rattle.std.proofs.lemmas.List.{get_or-take, get_or-drop, length-take-le, length-drop}
 use Rattle.definitions.specs.General.{every, some}
 use Rattle.base.specs.Tests.{both, both_l, both_r, both_i, same}
-use Rattle.base.specs.Search.{every_next, every_true, every_intro}
+use Rattle.base.specs.Search.{every_next, every_true, every_intro, every_cong}
+use Rattle.ranges.specs.Ranges.{zeros_at, within_at, all_zero, all_within}
 
 -- ---- all below n + k, in two parts
 pub every_split : (n k : ℕ) (f : ℕ → Bool) → every (n + k) f ≡ (every n f && every k (λ i. f (n + i)))
@@ -77,3 +80,28 @@ excess_none x limit =
     same (eqb (x - limit) 0) (leb x limit)
     (λ e. le-leb x limit (let z = eqb-true (x - limit) 0 e in omega arith))
     (λ e. eq-eqb (x - limit) 0 (let z = leb-true x limit e in omega arith))
+
+-- ---- a part of k words from a on: how long it is, and its words at their place among all
+module _ (w : List ℕ) (a k : ℕ) where
+  pub part_length : a + k ≤ length w → length (take k (drop a w)) ≡ k
+  part_length h = length-take-le k (drop a w) (simp length-drop (omega arith))
+
+  pub part_word : (i : ℕ) → i < k → get_or (take k (drop a w)) i 0 ≡ get_or w (a + i) 0
+  part_word i l = get_or-take k (drop a w) i 0 l ∙ get_or-drop a w i 0
+
+  pub zeros_part : (n : ℕ) → k ≡ n → a + n ≤ length w → all_zero (take k (drop a w)) ≡ zeros_at w a n
+  unfolding zeros_at all_zero
+  zeros_part n e h =
+      ap (λ (x : ℕ). every x (λ i. eqb (get_or (take k (drop a w)) i 0) 0)) (part_length (omega arith) ∙ e)
+      ∙ every_cong n (λ i. eqb (get_or (take k (drop a w)) i 0) 0) (λ i. eqb (get_or w (a + i) 0) 0)
+      (λ i l. ap (λ (x : ℕ). eqb x 0) (part_word i (omega arith)))
+
+  pub within_part : (t : List ℕ) (b n : ℕ) (limits : List ℕ) → k ≡ n → a + n ≤ length w
+      → ((i : ℕ) → i < n → get_or limits i 0 ≡ get_or t (b + i) 0)
+      → all_within (take k (drop a w)) limits ≡ within_at w a t b n
+  unfolding within_at all_within
+  within_part t b n limits e h s =
+      ap (λ (x : ℕ). every x (λ i. leb (get_or (take k (drop a w)) i 0) (get_or limits i 0))) (part_length (omega arith) ∙ e)
+      ∙ every_cong n (λ i. leb (get_or (take k (drop a w)) i 0) (get_or limits i 0))
+      (λ i. leb (get_or w (a + i) 0) (get_or t (b + i) 0))
+      (λ i l. ap₂ leb (part_word i (omega arith)) (s i l))

@@ -1,7 +1,7 @@
 -- What the tests of a lent world decide: refusals 1 and 2, or a sound world, of which each call gives what its own
 -- sentence says. Assumes nothing.
 use Rattle.std.specs.Prelude.{◌≡◌, refl, Bool, true, false, not, List, [], ℕ, suc, ◌+◌, ◌≤◌, ◌<◌, eqb, ltb, length, take, drop, get_or}
-use Rattle.std.proofs.Common.{sym, ◌∙◌, arith, eq-eqb, ne_eqb, lt-ltb, le-ltb, ltb-true}
+use Rattle.std.proofs.Common.{sym, ◌∙◌, arith, ne_eqb, lt-ltb, ltb-true}
 use Rattle.definitions.specs.General.{needs, gives, refuses, reply, absent}
 use Rattle.definitions.specs.World.{size, count, addr, encode, view, is_message}
 use Rattle.definitions.specs.Sound.{sound}
@@ -10,21 +10,12 @@ use Rattle.definitions.specs.Settle.{Manner}
 use Rattle.definitions.specs.Words.{needs_world, step_refusal, stepped_words, settled_words, settle_reply, log_length, log_start, log_refusal, log_words, length_reply, is_waiting, awaited_refusal, good_lengths, precedes_refusal, precedes_bytes, different, precedes_reply}
 use Rattle.base.specs.Refusals.{needs_none, reply_gives}
 use Rattle.base.specs.Count.{tally_le}
-use Rattle.world.specs.SoundLaws.{sound_facts, size_high, count_high, fifo_length_high, causal_length_high}
+use Rattle.world.specs.SoundLaws.{size_high, count_high, fifo_length_high, causal_length_high}
 use Rattle.keeps.specs.Keeps.{SoundWords, sound_words_taken, world_taken, taken_sound_words, sound_refusal, sound_stepped}
 
 -- ---- the world
 pub wrong_length : (w : List ℕ) (n : ℕ) → (length w ≡ 20480 → ⊥) → needs_world w n ≡ 1
 wrong_length w n h = rw (ne_eqb (length w) 20480 h)
-
-pub unsound : (w : List ℕ) (n : ℕ) → length w ≡ 20480 → sound (view w) ≡ false → needs_world w n ≡ 2
-unsound w n l h = rw (eq-eqb (length w) 20480 l, h)
-
-pub world_sound : (w : List ℕ) → length w ≡ 20480 → sound (view w) ≡ true → SoundWords w
-world_sound w l h = record { long = l; reads = sound_facts (view w) h }
-
-pub right_world : (w : List ℕ) (n : ℕ) → length w ≡ 20480 → sound (view w) ≡ true → needs_world w n ≡ n
-right_world w n l h = sound_words_taken w (world_sound w l h) n
 
 -- a world that is refused is refused whatever comes after
 both_refused : (a b : Bool) (m n : ℕ) → (needs 1 a (needs 2 b 0) ≡ 0 → ⊥)
@@ -64,9 +55,6 @@ settle_refused o w b r n e = (rw (← e, ne_eqb r 0 n), rw (← e, ne_eqb r 0 n)
 abbrev pub present_refusal : List ℕ → ℕ → ℕ → ℕ → ℕ
 present_refusal w a i n = needs_world w (needs n (ltb i (get_or w a 0)) 0)
 
-pub is_absent : (w : List ℕ) (a i n : ℕ) → needs_world w 0 ≡ 0 → get_or w a 0 ≤ i → n ≡ present_refusal w a i n
-is_absent w a i n e h = sym (still_taken w (needs n (ltb i (get_or w a 0)) 0) e ∙ rw (le-ltb i (get_or w a 0) h))
-
 pub is_present : (w : List ℕ) (a i n : ℕ) → needs_world w 0 ≡ 0 → i < get_or w a 0 → 0 ≡ present_refusal w a i n
 is_present w a i n e h = sym (still_taken w (needs n (ltb i (get_or w a 0)) 0) e ∙ rw (lt-ltb i (get_or w a 0) h))
 
@@ -105,7 +93,7 @@ log_there w p log h there = rw (← is_present w (addr size) p 5 (sound_words_ta
 pub process_inside : (w : List ℕ) (p : ℕ) → SoundWords w → p < view w size → p < 16
 process_inside w p h there = omega (arith, size_high (view w) h.reads)
 
-log_inside : (w : List ℕ) (p : ℕ) (log : Bool) → SoundWords w → p < view w size
+pub log_inside : (w : List ℕ) (p : ℕ) (log : Bool) → SoundWords w → p < view w size
     → log_start p log + log_length (view w) p log ≤ 20480
 log_inside w p true h there =
     let s = h.reads in
@@ -115,11 +103,6 @@ log_inside w p false h there =
     let s = h.reads in
     let b = process_inside w p h there in
     omega (arith, count_high (view w) s, fifo_length_high (view w) s p b)
-
--- what `logs::part` asks for
-pub log_lies : (w : List ℕ) (p : ℕ) (log : Bool) → SoundWords w → p < view w size
-    → (length w ≡ 20480) × (p < 16) × (log_start p log + log_length (view w) p log ≤ 20480)
-log_lies w p log h there = (h.long, process_inside w p h there, log_inside w p log h there)
 
 -- a log whose length is given lies among them too
 pub length_given : (w : List ℕ) (p : ℕ) (log : Bool) (n : ℕ) → gives n ≡ length_reply w p log

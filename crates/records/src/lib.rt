@@ -2,9 +2,11 @@
 // again.
 #![tactic(auto)]
 
-ghost use Rattle.std.specs.Prelude.{◌≡◌, ◌+◌, ◌<◌, length};
+ghost use Rattle.std.specs.Prelude.{◌≡◌, ◌<◌};
 ghost use Rattle.world.specs.Layout.{Reads, Changes};
 ghost use Rattle.records.specs.Record.{record_of, with_record, with_delivery};
+
+use cells::Words;
 
 // The record: C as 8 rows of 16, b, next and del.
 #[derive(Clone, Copy)]
@@ -30,8 +32,8 @@ impl Process {
 }
 
 // The record of process p.
-pub fn load(w: &[u16], p: usize) -> Process
-    requires { (length w.now ≡ 20480) × (p < 16) }
+pub fn load(w: &Words, p: usize) -> Process
+    requires { p < 16 }
     ensures { Reads w.now result (λ s. record_of s p) }
 {
     let base = cells::PROCESSES + p * cells::PROCESS;
@@ -54,19 +56,15 @@ pub fn load(w: &[u16], p: usize) -> Process
 }
 
 // r as the record of process p.
-pub fn store(w: &mut [u16], p: usize, r: Process)
-    requires { (length w.old ≡ 20480) × (p < 16) }
-    ensures { (length w.new ≡ 20480) × Changes w.old w.new (λ s. with_record s p r) }
+pub fn store(w: &mut Words, p: usize, r: Process)
+    requires { p < 16 }
+    ensures { Changes w.old w.new (λ s. with_record s p r) }
 {
     let base = cells::PROCESSES + p * cells::PROCESS;
     w[base] = r.group;
     w[base + cells::TRUST] = r.trust;
-    let c = r.counters;
-    cells::put(w, base + cells::COUNTERS, &c);
-    let s = r.sequences;
-    cells::put(w, base + cells::SEQUENCES, &s);
-    let n = r.next;
-    cells::put(w, base + cells::NEXTS, &n);
-    let d = r.delivered;
-    cells::put(w, base + cells::DELIVERED, &d);
+    cells::put(w, base + cells::COUNTERS, &r.counters);
+    cells::put(w, base + cells::SEQUENCES, &r.sequences);
+    cells::put(w, base + cells::NEXTS, &r.next);
+    cells::put(w, base + cells::DELIVERED, &r.delivered);
 }

@@ -10,15 +10,15 @@ ghost use Rattle.regions.specs.Rows.{Block, row_ok, rows_fine};
 ghost use Rattle.regions.specs.Letters.{letter_ok, letters_at};
 ghost use Rattle.regions.specs.Nexts.{Small, next_of, nexts_at};
 
+use cells::Words;
+use masks::Set;
+
 // 1 where the mask has p, else 0.
 fn flag(mask: u16, p: usize) -> u16
     requires { p < 16 }
     ensures { result ≡ pick (bit mask p) 1 0 }
 {
-    if masks::test(mask, p) {
-        return 1;
-    }
-    0
+    u16::from(mask.has(p))
 }
 
 // What of x the other mask lacks, if it counts (1); else all of x (0).
@@ -40,23 +40,20 @@ fn row(held: u16, marks: u16, to: u16, p: usize) -> u16
 
 // Whether the held flags and the marks of process p are only for messages addressed to it, the marks only from
 // addressees.
-pub fn rows(w: &[u16], p: usize, addressees: &[u16]) -> bool
+pub fn rows(w: &Words, p: usize, addressees: &[u16; 64]) -> bool
     requires block { Block w.now p }
     requires addressees { Addressees (view w.now) addressees.now }
     ensures { result ≡ rows_fine (view w.now) p }
 {
     let at = cells::PROCESSES + p * cells::PROCESS;
     let mut any: u16 = 0;
-    let mut m: usize = 0;
-    while m < 64 {
-        any = any
-            | row(
-                w[at + cells::HELD + m],
-                w[at + cells::MARKS + m],
-                addressees[m],
-                p,
-            );
-        m += 1;
+    for m in 0..64 {
+        any |= row(
+            w[at + cells::HELD + m],
+            w[at + cells::MARKS + m],
+            addressees[m],
+            p,
+        );
     }
     any == 0
 }
@@ -66,10 +63,11 @@ fn letter(receivers: u16, origins: u16, to: u16, q: usize) -> bool
     requires { q < 16 }
     ensures { result ≡ letter_ok receivers origins to q }
 {
-    if masks::test(origins, q) {
-        return receivers & to == receivers;
+    if origins.has(q) {
+        receivers & to == receivers
+    } else {
+        receivers == 0
     }
-    receivers == 0
 }
 
 // Whether the 16 masks of receivers from a on are only for the origins, and only among the addressees.
@@ -78,10 +76,8 @@ pub fn letters(w: &[u16], a: usize, origins: u16, to: u16) -> bool
     ensures { result ≡ letters_at w.now a origins to }
 {
     let mut ok = true;
-    let mut q: usize = 0;
-    while q < 16 {
-        ok = ok & letter(w[a + q], origins, to, q);
-        q += 1;
+    for q in 0..16 {
+        ok &= letter(w[a + q], origins, to, q);
     }
     ok
 }
@@ -91,23 +87,18 @@ fn expected(x: u16, n: usize, q: usize) -> u16
     requires { x ≤ 64 }
     ensures { result ≡ next_of x n q }
 {
-    if q < n {
-        return x + 1;
-    }
-    0
+    if q < n { x + 1 } else { 0 }
 }
 
 // Whether each of the 16 words from a on is next for what was counted, and zero from n on.
-pub fn nexts(w: &[u16], a: usize, n: usize, t: &[u16]) -> bool
+pub fn nexts(w: &[u16], a: usize, n: usize, t: &[u16; 16]) -> bool
     requires a_in_bounds { a + 16 ≤ length w.now }
     requires small { Small t.now }
     ensures { result ≡ nexts_at w.now a n t.now }
 {
     let mut ok = true;
-    let mut q: usize = 0;
-    while q < 16 {
-        ok = ok & (w[a + q] == expected(t[q], n, q));
-        q += 1;
+    for q in 0..16 {
+        ok &= w[a + q] == expected(t[q], n, q);
     }
     ok
 }

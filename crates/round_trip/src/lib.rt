@@ -10,10 +10,7 @@ pub fn write_then_read(records: &[u8], out: &mut [u8], back: &mut [u8]) -> bool
     ensures answer { result ≡ both_written records.now out.old back.old }
     ensures bytes { back.new ≡ pick result records.now back.old }
 {
-    if answers::outcome(journal::write(records, out)) != 0 {
-        return false;
-    }
-    answers::outcome(journal::read(out, back)) == 0
+    journal::write(records, out).is_ok() && journal::read(out, back).is_ok()
 }
 
 // Reads the journal to `back` and writes it from there to `out`. Where both are taken, `out` holds the journal.
@@ -21,8 +18,5 @@ pub fn read_then_write(journal: &[u8], back: &mut [u8], out: &mut [u8]) -> bool
     ensures answer { result ≡ both_read journal.now back.old out.old }
     ensures bytes { out.new ≡ pick result journal.now out.old }
 {
-    if answers::outcome(journal::read(journal, back)) != 0 {
-        return false;
-    }
-    answers::outcome(journal::write(back, out)) == 0
+    journal::read(journal, back).is_ok() && journal::write(back, out).is_ok()
 }

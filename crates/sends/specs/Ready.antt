@@ -1,13 +1,13 @@
 -- The test "ready" of the cascade, read off words, and in the code's order. Assumes nothing.
-use Rattle.std.specs.Prelude.{◌≡◌, refl, Bool, true, false, List, ℕ, ◌<◌}
-use Rattle.std.proofs.Math.Path.{sym, ap, ap₂}
-use Rattle.std.proofs.Common.{◌∙◌, arith, eq-eqb, ne_eqb}
+use Rattle.std.specs.Prelude.{◌≡◌, Bool, List, ℕ, ◌<◌}
+use Rattle.std.proofs.Math.Path.{ap, ap₂}
+use Rattle.std.proofs.Common.{◌∙◌, arith}
 use Rattle.std.proofs.Math.Bool.{not, ◌&&◌}
 use Rattle.std.proofs.Math.Dec.{eqb}
 use Rattle.definitions.specs.General.{bit, every, absent}
 use Rattle.definitions.specs.World.{size, trust, fifo_length, held, marks, fifo, State, encode, view, addressed, outside_fifo}
-use Rattle.definitions.specs.Machine.{in_turn, marked, ready}
-use Rattle.base.specs.Tests.{both, either, and_false, and_true}
+use Rattle.definitions.specs.Machine.{marked, ready}
+use Rattle.base.specs.Tests.{both, either}
 use Rattle.base.specs.Search.{every_cong}
 use Rattle.world.specs.Layout.{Reads, get_encode}
 use Rattle.bounds.specs.Bounds.{Bounds, bounds_state}
@@ -51,53 +51,6 @@ pub ready_law : (w : List ℕ) (p m : ℕ) {r : Bool} → Bounds (view w) → p 
 ready_law w p m h hp hm q s e =
     q ∙ ap (λ (x : List ℕ). ready (view x) p m) e ∙ ready_words s (bounds_state w s e h) p m hp hm
 
--- ---- the four tests
-none : (a b c d : Bool) → both (both a b) c ≡ false → false ≡ both (both (both a b) c) d
-none a b c d e = sym (ap (λ (x : Bool). both x d) e)
-
-second : (b d : Bool) → both (both (both true b) true) d ≡ both b d
-second true d = refl
-second false d = refl
-
 -- m waits for no mark at p, and is outside its FIFO log
 abbrev pub cleared : State → ℕ → ℕ → Bool
 cleared s p m = both (outside_fifo s p m) (every (s size) (marked s p m))
-
-module _ (s : State) (p m : ℕ) where
-  abbrev is_held : Bool
-  is_held = eqb (s (held p m)) 1
-
-  abbrev new : Bool
-  new = outside_fifo s p m
-
-  abbrev next_one : Bool
-  next_one = in_turn s p m
-
-  abbrev all : Bool
-  all = every (s size) (marked s p m)
-
-  pub ready_not_held : {x : ℕ} → x ≡ s (held p m) → (x ≡ 1 → ⊥) → false ≡ ready s p m
-  unfolding ready
-  ready_not_held ex n =
-      none is_held new next_one all
-      (ap (λ (b : Bool). both (both b new) next_one) (ne_eqb (s (held p m)) 1 (λ z. n (ex ∙ z))))
-
-  pub ready_not_next : in_turn s p m ≡ false → false ≡ ready s p m
-  unfolding ready
-  ready_not_next e = none is_held new next_one all (ap (both (both is_held new)) e ∙ and_false (both is_held new))
-
-  pub ready_cleared : {x : ℕ} {r : Bool} → x ≡ s (held p m) → x ≡ 1 → in_turn s p m ≡ true → r ≡ cleared s p m
-      → r ≡ ready s p m
-  unfolding ready
-  ready_cleared ex h t er =
-      er ∙ sym (ap₂ (λ (x y : Bool). both (both (both x new) y) all) (eq-eqb (s (held p m)) 1 (sym ex ∙ h)) t
-      ∙ second new all)
-
-  -- its marks, and the log
-  pub cleared_lacks : every (s size) (marked s p m) ≡ false → false ≡ cleared s p m
-  cleared_lacks e = sym (ap (both new) e ∙ and_false new)
-
-  pub cleared_is : {n : ℕ} {r : Bool} → every (s size) (marked s p m) ≡ true → n ≡ s (fifo_length p)
-      → r ≡ absent n m (λ i. s (fifo p i)) → r ≡ cleared s p m
-  cleared_is a en er =
-      er ∙ ap (λ (k : ℕ). absent k m (λ i. s (fifo p i))) en ∙ sym (ap (both new) a ∙ and_true new)

@@ -1,7 +1,7 @@
 -- Addressees, the letters that a process sends, and the OKs that it owes: the tests read off words, and the
 -- stores. Assumes nothing.
 use Rattle.std.specs.Prelude.{◌≡◌, refl, Bool, true, false, List, ℕ, zero, suc, ◌+◌, ◌<◌, eqb, set}
-use Rattle.std.proofs.Common.{sym, ◌∙◌, add-one, arith, eq-eqb, ne_eqb}
+use Rattle.std.proofs.Common.{sym, ◌∙◌, add-one, arith}
 use Rattle.std.proofs.Math.Path.{ap, ap₂}
 use Rattle.definitions.specs.General.{bit, with, mask_of, pick}
 use Rattle.definitions.specs.World.{size, group, next, held, sender, mask, number, flight, addr, State, put, encode, view, addressed}
@@ -69,20 +69,6 @@ pub in_turn_is : (s : State) (p m : ℕ) {g q x y : ℕ} {r : Bool} → g ≡ s 
     → x ≡ s (number m g) → y ≡ s (next p q) → r ≡ eqb x y → r ≡ in_turn s p m
 in_turn_is s p m eg eq ex ey er =
     er ∙ ap₂ eqb ex ey ∙ ap₂ (λ (a b : ℕ). eqb (s (number m a)) (s (next p b))) eg eq
-
-pub due_not_held : (s : State) (p q m : ℕ) {x : ℕ} → x ≡ s (held p m) → (x ≡ 1 → ⊥) → false ≡ due s p q m
-unfolding due
-due_not_held s p q m ex n =
-    sym (ap (λ (b : Bool). both (both b (eqb (s (sender m)) q)) (in_turn s p m))
-    (ne_eqb (s (held p m)) 1 (λ z. n (ex ∙ z))))
-
-pub due_is : (s : State) (p q m : ℕ) {x y : ℕ} {r : Bool} → x ≡ s (held p m) → x ≡ 1 → y ≡ s (sender m)
-    → y ≡ q
-    → r ≡ in_turn s p m → r ≡ due s p q m
-unfolding due
-due_is s p q m ex h ey k er =
-    er ∙ sym (ap₂ (λ (a b : Bool). both (both a b) (in_turn s p m)) (eq-eqb (s (held p m)) 1 (sym ex ∙ h))
-    (eq-eqb (s (sender m)) q (sym ey ∙ k)))
 
 -- ---- letters stored
 pub sent_law : (w : List ℕ) (p m k : ℕ) {a : ℕ} → p < 16 → m < 64 → k < 3 → Reads w a (λ s. addressees s m)

@@ -9,7 +9,7 @@ use Rattle.definitions.specs.Steps.{is_up}
 use Rattle.definitions.specs.Settle.{letter, nothing, fair, by_turns}
 use Rattle.sets.specs.Lowest.{lowest}
 use Rattle.world.specs.Layout.{reads_cell, Within, Changes}
-use Rattle.world.specs.SoundLaws.{size_high, count_high}
+use Rattle.world.specs.SoundLaws.{Sound, size_high, count_high}
 use Rattle.world.specs.StepLaws.{Arrives as Moves}
 use Rattle.world.specs.TurnLaws.{choice_moves}
 use Rattle.keeps.specs.Keeps.{SoundWords}
@@ -24,70 +24,55 @@ use Rattle.gathering.specs.Gathered.{lettered, all_told}
 use Rattle.serving.specs.Choice.{letter_low, fair_found, fair_none}
 use Rattle.serving.specs.Sent.{posted_lettered, silent_lettered}
 
--- what the arrival of the letter of m at a place at p leans on, and what it leaves
-pub record Serves (w x a : List ℕ) (live place m p : ℕ) (known : Bool) : Type 0 where
-  pub arrives : Arrives w x (place / 16) m (place % 16) p known
-  pub sound : SoundWords w
+-- what the arrival of a letter leans on, and what it leaves
+pub record Serves (w x a : List ℕ) (live k m q p : ℕ) (known : Bool) : Type 0 where
+  pub arrives : Arrives w x k m q p known
+  pub sound : Sound (view w)
   pub ups : live ≡ mask_of (view w size) (is_up (view w))
   pub queues : Queues (lettered (view w)) a
-  pub low : place < 48
 
 pub record Served (w u x a : List ℕ) (k m q p : ℕ) : Type 0 where
-  pub long : length u ≡ 20480
   pub words : u ≡ encode (arrival (view w) k m q p)
   pub index : Index (view u) x
   pub queues : Queues (lettered (view u)) a
 
 -- ---- the arrival, after the letter has left its queue
-module _ {w x a u : List ℕ} {live place m p : ℕ} {known : Bool} (z : Serves w x a live place m p known)
-    (lu : length u ≡ 20480) (c : Changes w u (λ s. marked_of s (place / 16) m (place % 16) p)) where
-  whole_place : place ≡ place / 16 * 16 + place % 16
-  whole_place = omega arith
-
+module _ {w x a u : List ℕ} {live k m q p : ℕ} {known : Bool} (z : Serves w x a live k m q p known)
+    (lu : length u ≡ 20480) (c : Changes w u (λ s. marked_of s k m q p)) where
   -- nothing follows the mark
-  pub served_marked : {b : List ℕ} → Queues (parted (lettered (view w)) m place p) b
+  pub served_marked : {b : List ℕ} → Queues (parted (lettered (view w)) m (k * 16 + q) p) b
       → (known ≡ true) × (view u (held p m) ≡ 1) × (every (view u size) (marked (view u) p m) ≡ false)
-      → Served w u x b (place / 16) m (place % 16) p
-  served_marked {b} q e =
-      let r = arrived_marked w u x (place / 16) m (place % 16) p known z.arrives lu c 0 e in
+      → Served w u x b k m q p
+  served_marked {b} f e =
+      let r = arrived_marked w u x k m q p known z.arrives lu c 0 e in
       record {
-        long = r.long;
         words = r.words;
         index = r.index;
-        queues = queues_same q (λ y j i hy hj hi.
-            ap (λ (n : ℕ). parted (lettered (view w)) m n p y j i) whole_place
-            ∙ silent_lettered (view w) (view u) (place / 16) m (place % 16) p z.sound.reads z.arrives.kind
-            z.arrives.from (λ d h. reads_cell u d h (arrival (view w) (place / 16) m (place % 16) p) r.words)
-            (posts_marked w u (place / 16) m (place % 16) p z.arrives.long z.arrives.bounds c (view u) 0
-            (λ _ _ _ _ _ _ _. refl)) y j i hy hj hi);
+        queues = queues_same f (silent_lettered (view w) (view u) k m q p z.sound z.arrives.kind z.arrives.from
+            (λ d h. reads_cell u d h (arrival (view w) k m q p) r.words)
+            (posts_marked w u k m q p z.arrives.long z.arrives.bounds c (view u) 0 (λ _ _ _ _ _ _ _. refl)));
       }
 
   -- the rest follows, and what it sent is noted
   module _ {v y : List ℕ} (lv : length v ≡ 20480) (d : Changes u v (λ s. cascade (hold s p m) p))
       (g : Index (view v) y × Logs (view v) p) where
-    followed : Arrived w v y (place / 16) m (place % 16) p 0
-    followed =
-        arrived_followed w u x (place / 16) m (place % 16) p known z.arrives lu c lv d g
-        (λ _ _ _ _ _ _ l. absurd (omega arith))
+    followed : Arrived w v y k m q p 0
+    followed = arrived_followed w u x k m q p known z.arrives lu c lv d g (λ _ _ _ _ _ _ l. absurd (omega arith))
 
-    same_cells : (e : Cell) → Within e → view v e ≡ arrival (view w) (place / 16) m (place % 16) p e
-    same_cells e h = reads_cell v e h (arrival (view w) (place / 16) m (place % 16) p) followed.words
+    same_cells : (e : Cell) → Within e → view v e ≡ arrival (view w) k m q p e
+    same_cells e h = reads_cell v e h (arrival (view w) k m q p) followed.words
 
     pub followed_ups : live ≡ mask_of (view v size) (is_up (view v))
-    followed_ups = still_up (view w) (view v) (place / 16) m (place % 16) p z.sound.reads same_cells live z.ups
+    followed_ups = still_up (view w) (view v) k m q p z.sound same_cells live z.ups
 
     pub served_posted : {b : List ℕ} (sent : ℕ) → Posts (view u) (view v) p sent
-        → Queues (all_told (parted (lettered (view w)) m place p) (view v) p sent) b
-        → Served w v y b (place / 16) m (place % 16) p
-    served_posted {b} sent f q = record {
-      long = lv;
+        → Queues (all_told (parted (lettered (view w)) m (k * 16 + q) p) (view v) p sent) b
+        → Served w v y b k m q p
+    served_posted {b} sent f n = record {
       words = followed.words;
       index = g.0;
-      queues = queues_same q (λ e j i he hj hi.
-          ap (λ (n : ℕ). all_told (parted (lettered (view w)) m n p) (view v) p sent e j i) whole_place
-          ∙ posted_lettered (view w) (view v) (place / 16) m (place % 16) p z.sound.reads z.arrives.kind
-          z.arrives.from same_cells sent
-          (posts_marked w u (place / 16) m (place % 16) p z.arrives.long z.arrives.bounds c (view v) sent f) e j i he hj hi);
+      queues = queues_same n (posted_lettered (view w) (view v) k m q p z.sound z.arrives.kind z.arrives.from same_cells sent
+          (posts_marked w u k m q p z.arrives.long z.arrives.bounds c (view v) sent f));
     }
 
 -- ---- what the loop keeps: the up processes, the quiescent ones, and whose turn it is
@@ -101,8 +86,8 @@ pub record Turning (w x a : List ℕ) (live mask t : ℕ) : Type 0 where
 
 module _ {w x a : List ℕ} {live mask t : ℕ} (g : Turning w x a live mask t) where
   -- nobody waits
-  pub turning_none : {p : ℕ} → p ≡ served_of (get_or a 1040 0) t → 64 ≤ p → fair t (view w) ≡ nothing
-  turning_none {p} e l = fair_none (view w) g.sound.reads a g.queues t g.turn (omega arith)
+  pub turning_none : 64 ≤ served_of (get_or a 1040 0) t → fair t (view w) ≡ nothing
+  turning_none l = fair_none (view w) g.sound.reads a g.queues t g.turn l
 
   -- somebody does
   module _ {p m place : ℕ} (ep : p ≡ served_of (get_or a 1040 0) t) (lp : p < 64)
@@ -141,7 +126,7 @@ module _ {w x a : List ℕ} {live mask t : ℕ} (g : Turning w x a live mask t) 
           omega (arith, moving.letter.to),
         )
 
-    pub turning_serves : {known : Bool} → known ≡ bit mask p → Serves w x a live place m p known
+    pub turning_serves : {known : Bool} → known ≡ bit mask p → Serves w x a live (place / 16) m (place % 16) p known
     turning_serves {known} e =
         let l = turning_low in
         record {
@@ -156,10 +141,9 @@ module _ {w x a : List ℕ} {live mask t : ℕ} (g : Turning w x a live mask t) 
             logs = sound_logs (view w) p g.sound.reads l.3;
             known = rested_known mask (view w) p known g.rested l.4 e;
           };
-          sound = g.sound;
+          sound = g.sound.reads;
           ups = g.ups;
           queues = g.queues;
-          low = l.2;
         }
 
     -- and after its arrival it is the turn of the next

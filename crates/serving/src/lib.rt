@@ -2,66 +2,72 @@
 // can move are sorted beside the words once; after an arrival only what it sent is noted, from the words.
 #![tactic(auto)]
 
-ghost use Rattle.std.specs.Prelude.{false, ◌≡◌, ◌/◌, ◌%◌};
-ghost use Rattle.definitions.specs.General.{gives};
+ghost use Rattle.std.specs.Prelude.{false, ◌≡◌};
 ghost use Rattle.definitions.specs.World.{view};
 ghost use Rattle.definitions.specs.Settle.{by_turns};
 ghost use Rattle.definitions.specs.Words.{settle_words};
-ghost use Rattle.definitions.specs.Answers.{settling_reply};
-ghost use Rattle.keeps.specs.Keeps.{SoundWords};
+ghost use Rattle.definitions.specs.Answers.{ending_of};
+ghost use Rattle.world.specs.SoundLaws.{Sound};
 ghost use Rattle.index.specs.Index.{Index};
 ghost use Rattle.queues.specs.Queues.{Queues};
 ghost use Rattle.serving.specs.Serving.{Serves, Served};
 
+use cells::{Letter, Words};
 use definitions::Settling;
+use masks::Set;
 
-// The arrival at p of the letter of message m at a place, and the queues after it.
+// The arrival of a letter, and the queues after it.
 fn serve_one(
-    w: &mut [u16],
-    x: &mut [u64],
-    a: &mut [u64],
+    w: &mut Words,
+    x: &mut index::Table,
+    a: &mut queues::Table,
     up: u16,
-    m: usize,
-    place: usize,
-    p: usize,
+    letter: Letter,
     known: bool,
 )
-    requires { Serves w.old x.old a.old up place m p known }
-    ensures { Served w.old w.new x.new a.new (place / 16) m (place % 16) p }
+    requires { Serves w.old x.old a.old up letter.kind letter.message letter.from letter.to known }
+    ensures { Served w.old w.new x.new a.new letter.kind letter.message letter.from letter.to }
 {
-    queues::leave(a, m, place, p);
-    if arrivals::touch(w, x, place / 16, m, place % 16, p, known) {
+    let m = letter.message;
+    let p = letter.to;
+    queues::leave(a, m, letter.kind * 16 + letter.from, p);
+    if arrivals::touch(w, x, letter, known) {
         let sent = arrivals::follow(w, x, m, p, known);
         gathering::note_sent(w, a, up, p, sent.messages);
     }
 }
 
 // Makes at most `budget` arrivals in a sound world, the processes served in turn from 0 on.
-pub fn serve(w: &mut [u16], x: &mut [u64], a: &mut [u64], budget: u32) -> Settling
-    requires { SoundWords w.old × Index (view w.old) x.old × Queues (λ _ _ _. false) a.old }
-    ensures answer { settling_reply result ≡ gives (settle_words by_turns w.old budget).ending }
+pub fn serve(w: &mut Words, x: &mut index::Table, a: &mut queues::Table, budget: u32) -> Settling
+    requires sound { Sound (view w.old) }
+    requires index { Index (view w.old) x.old }
+    requires none { Queues (λ _ _ _. false) a.old }
+    ensures answer { ending_of result ≡ (settle_words by_turns w.old budget).ending }
     ensures words { w.new ≡ (settle_words by_turns w.old budget).world }
 {
     let up = letters::up_mask(w);
     gathering::gather(w, a, up);
     let mut quiescent: u16 = 0;
     let mut turn: usize = 0;
-    let mut made: u32 = 0;
-    while made < budget {
-        let p = queues::served(a[queues::WAITING], turn);
-        if 64 <= p {
+    for made in 0..budget {
+        let Some(p) = queues::served(a[queues::WAITING], turn) else {
             return Settling::Done(made);
-        }
-        let m = sets::lowest(a[queues::MESSAGES + p]);
-        let place = sets::lowest(a[m * 16 + p]);
-        let known = masks::test(quiescent, p);
-        serve_one(w, x, a, up, m, place, p, known);
-        quiescent = masks::set(quiescent, p);
+        };
+        let m = a[queues::MESSAGES + p].lowest();
+        let place = a[m * 16 + p].lowest();
+        let letter = Letter {
+            kind: place / 16,
+            message: m,
+            from: place % 16,
+            to: p,
+        };
+        let known = quiescent.has(p);
+        serve_one(w, x, a, up, letter, known);
+        quiescent = quiescent.join(p);
         turn = p + 1;
-        made += 1;
     }
-    if queues::served(a[queues::WAITING], turn) < 64 {
-        return Settling::Stopped(made);
+    match queues::served(a[queues::WAITING], turn) {
+        Some(_) => Settling::Stopped(budget),
+        None => Settling::Done(budget),
     }
-    Settling::Done(made)
 }

@@ -1,5 +1,5 @@
 -- The sets of one number each as a table, and a set with one number more by it. Assumes nothing.
-use Rattle.std.specs.Prelude.{◌≡◌, Bool, List, ℕ, ◌+◌, ◌^◌, ◌≤◌, ◌<◌, length, get_or, set}
+use Rattle.std.specs.Prelude.{◌≡◌, Bool, List, ℕ, ◌+◌, ◌^◌, ◌<◌, length, get_or, set}
 use Rattle.std.proofs.Common.{sym, ap, ◌∙◌, subst, arith, get_or-set_same, get_or-set_other, lt-ltb}
 use Rattle.std.proofs.Math.Decide.{ℕ_discrete}
 use Rattle.std.specs.Int.Bits.{bit_or}
@@ -12,10 +12,9 @@ pub record Powers (t : List ℕ) : Type 0 where
   pub long : length t ≡ 64
   pub at : (i : ℕ) → i < 64 → get_or t i 0 ≡ 2 ^ i
 
--- The n words from a on are there, and below 64.
-pub record Low (w : List ℕ) (a n : ℕ) : Type 0 where
-  pub inside : a + n ≤ length w
-  pub low : (i : ℕ) → i < n → get_or w (a + i) 0 < 64
+-- All words of a log are below 64.
+abbrev pub Low : List ℕ → Type 0
+Low log = (i : ℕ) → i < length log → get_or log i 0 < 64
 
 -- one number more
 pub members_or : (set n x : ℕ) (log : ℕ → ℕ) (t : List ℕ) → Powers t → Members set n log → x ≡ log n → x < 64

@@ -4,6 +4,7 @@ use Rattle.std.specs.Prelude.{◌≡◌, refl, Bool, true, false, ◌&&◌, List
 use Rattle.std.proofs.Math.Path.{sym, ap}
 use Rattle.std.proofs.Common.{ap₂, ◌∙◌, subst, inl, inr, arith, lt-ltb, le-ltb, ltb-true, eq-eqb}
 use Rattle.std.proofs.Math.Decide.{ℕ_discrete}
+use Rattle.std.proofs.Math.Nat.{sub-zero}
 use Rattle.std.proofs.Math.Dec.{ltb}
 use Rattle.definitions.specs.General.{pick, first_from, bit, with, without}
 use Rattle.base.specs.Tests.{pick_no, clash, both_l, both_r, both_i, le_or_lt, and_false}
@@ -17,10 +18,11 @@ use Rattle.letters.specs.Places.{Passed, lowest_before, from_message, from_kind,
 use Rattle.letters.specs.Search.{waiting, waiting_bit, waiting_above, lowest_found}
 use Rattle.letters.specs.declared.Place.{Place}
 use Rattle.quiescence.specs.Quiescent.{arrival_size, arrival_count, arrival_up}
-use Rattle.settling.specs.Settling.{Going, arrive_words, lowest_from, lowest_more, rested_known, letter_within}
+use Rattle.settling.specs.Settling.{Going, arrive_words, lowest_from, lowest_more, settle_done, settle_stopped, rested_known, letter_within}
 use Rattle.world.specs.Layout.{reads_cell, put_same, Within}
 use Rattle.definitions.specs.Machine.{leave, mark, arrival}
-use Rattle.definitions.specs.Settle.{letter, lowest, moves, receiver, origin, kind, movable, any}
+use Rattle.definitions.specs.Settle.{letter, nothing, done, stopped, lowest, moves, receiver, origin, kind, movable, any, lowest_first}
+use Rattle.definitions.specs.Words.{settle_words}
 use Rattle.world.specs.SoundLaws.{size_high, count_high}
 use Rattle.world.specs.StepLaws.{lowest_moves}
 use Rattle.definitions.specs.Steps.{is_up}
@@ -259,3 +261,22 @@ some_receiver s k m q p mask e hp r z =
 pub batched_first : {w x : List ℕ} {live mask made budget : ℕ} {place : Place} → Going w live mask place → Index (view w) x
     → made ≤ budget → Batched w w x live mask made made budget place
 batched_first g z l = record { going = g; index = z; most = l; same = refl }
+
+-- one batch after the other
+pub batched_then : {w₀ w u x y : List ℕ} {live mask mask' made₀ made made' budget : ℕ} {place place' : Place}
+    → Batched w₀ w x live mask made₀ made budget place → Batched w u y live mask' made made' budget place'
+    → Batched w₀ u y live mask' made₀ made' budget place'
+batched_then b d = record { going = d.going; index = d.index; most = d.most; same = b.same ∙ d.same }
+
+-- where no letter moves, or the budget is used up, settling ends
+module _ {w₀ w x : List ℕ} {live mask made budget : ℕ} {place : Place} (b : Batched w₀ w x live mask 0 made budget place) where
+  same_from : settle_words lowest_first w₀ budget ≡ lowest_from (budget - made) made w
+  unfolding settle_words
+  same_from = ap (λ (n : ℕ). lowest_from n 0 w₀) (sym (sub-zero budget)) ∙ b.same
+
+  pub batched_done : lowest any (view w) ≡ nothing → settle_words lowest_first w₀ budget ≡ record { world = w; ending = done made }
+  batched_done e = same_from ∙ settle_done lowest_first (budget - made) made 0 w e
+
+  pub batched_stopped : {k m q p : ℕ} → budget ≤ made → lowest any (view w) ≡ letter k m q p
+      → settle_words lowest_first w₀ budget ≡ record { world = w; ending = stopped made }
+  batched_stopped l e = same_from ∙ settle_stopped lowest_first budget made 0 w _ _ _ _ l e

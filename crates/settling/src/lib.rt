@@ -6,120 +6,120 @@
 ghost use Rattle.std.specs.Prelude.{◌≢◌, ◌≡◌, ◌<◌};
 ghost use Rattle.index.specs.Index.{Index};
 ghost use Rattle.definitions.specs.World.{view, size, count};
-ghost use Rattle.definitions.specs.General.{gives};
 ghost use Rattle.definitions.specs.Settle.{lowest_first};
 ghost use Rattle.definitions.specs.Words.{settle_words};
-ghost use Rattle.definitions.specs.Answers.{settling_reply};
-ghost use Rattle.keeps.specs.Keeps.{SoundWords};
+ghost use Rattle.definitions.specs.Answers.{ending_of};
+ghost use Rattle.world.specs.SoundLaws.{Sound};
 ghost use Rattle.settling.specs.Places.{next_at};
-ghost use Rattle.settling.specs.Batch.{at, Receives, Batched};
+ghost use Rattle.settling.specs.Batch.{Receives, Batched};
 
+use cells::{Letter, Words};
 use definitions::Settling;
-use letters::{Letter, Place};
+use letters::Place;
+use masks::Set;
 
-// The place of the letters of kind k for message m from q.
-fn at(k: usize, m: usize, q: usize) -> Place
-    ensures { result ≡ at k m q }
+// Where the search goes on after the arrival of a letter of a place that sent none below r.
+fn next_place(from: Place, r: usize) -> Place
+    requires { (from.kind < 3) × (from.message < 64) × (from.origin < 16) }
+    ensures { result ≡ next_at from.kind from.message from.origin r }
 {
-    Place {
-        message: m,
-        kind: k,
-        origin: q,
+    if r < from.message * 48 + from.kind * 16 + from.origin {
+        return Place {
+            message: r / 48,
+            kind: 0,
+            origin: 0,
+        };
     }
+    from
 }
 
-// Where the search goes on after the arrival of a letter that sent none below a place.
-fn next_place(k: usize, m: usize, q: usize, r: usize) -> Place
-    requires { (k < 3) × (m < 64) × (q < 16) }
-    ensures { result ≡ next_at k m q r }
-{
-    if r < m * 48 + k * 16 + q {
-        return at(0, r / 48, 0);
-    }
-    at(k, m, q)
-}
-
-// What a batch has come to: the arrivals made, the processes known to be quiescent, and where the search goes on.
-#[derive(Drop)]
+// What settling has come to: the arrivals made, the processes known to be quiescent, and where the search goes on.
+#[derive(Clone, Copy)]
 pub struct Reached {
     pub made: u32,
     pub quiescent: u16,
     pub place: Place,
 }
 
-// The three together.
-fn so_far(made: u32, quiescent: u16, place: Place) -> Reached
-    ensures { (result.made ≡ made) × (result.quiescent ≡ quiescent) × (result.place ≡ place) }
-{
-    Reached {
-        made: made,
-        quiescent: quiescent,
-        place: place,
-    }
-}
-
-// Arrivals of the letters of one place at its receivers, lowest first, until one has sent a letter there or below.
+// Arrivals of the letters of the place reached at its receivers, lowest first, until one has sent a letter there or below.
 fn batch(
-    w: &mut [u16],
-    x: &mut [u64],
+    w: &mut Words,
+    x: &mut index::Table,
     up: u16,
-    k: usize,
-    m: usize,
-    q: usize,
     receivers: u16,
-    quiescent: u16,
-    made: u32,
+    from: Reached,
     budget: u32,
 ) -> Reached
-    requires { Batched w.old w.old x.old up quiescent made made budget (at k m q) × Receives (view w.old) k m q receivers × (receivers ≢ 0) × (made < budget) × (q < view w.old size) × (m < view w.old count) }
-    ensures { Batched w.old w.new x.new up result.quiescent made result.made budget result.place × (made < result.made) }
+    requires begins { Batched w.old w.old x.old up from.quiescent from.made from.made budget from.place }
+    requires receives { Receives (view w.old) from.place.kind from.place.message from.place.origin receivers }
+    requires some { receivers ≢ 0 }
+    requires more { from.made < budget }
+    requires origin { from.place.origin < view w.old size }
+    requires message { from.place.message < view w.old count }
+    ensures reached { Batched w.old w.new x.new up result.quiescent from.made result.made budget result.place }
+    ensures some { from.made < result.made }
 {
-    let here = m * 48 + k * 16 + q;
+    let place = from.place;
+    let here = place.message * 48 + place.kind * 16 + place.origin;
     let mut left = receivers;
-    let mut calm = quiescent;
-    let mut done = made;
+    let mut reached = from;
     while left != 0 {
-        if done == budget {
-            return so_far(done, calm, at(k, m, q));
+        if reached.made == budget {
+            return reached;
         }
-        let p = masks::lowest(left) as usize;
-        let known = masks::test(calm, p);
-        left = masks::clear(left, p);
-        done += 1;
-        if arrivals::touch(w, x, k, m, q, p, known) {
-            calm = masks::set(calm, p);
-            let sent = arrivals::follow(w, x, m, p, known);
+        let p = left.lowest();
+        let known = reached.quiescent.has(p);
+        left = left.drop(p);
+        reached.made += 1;
+        let letter = Letter {
+            kind: place.kind,
+            message: place.message,
+            from: place.origin,
+            to: p,
+        };
+        if arrivals::touch(w, x, letter, known) {
+            reached.quiescent = reached.quiescent.join(p);
+            let sent = arrivals::follow(w, x, letter.message, p, known);
             if sent.place <= here {
-                return so_far(done, calm, next_place(k, m, q, sent.place));
+                reached.place = next_place(place, sent.place);
+                return reached;
             }
         }
     }
-    so_far(done, calm, at(k, m, q))
+    reached
 }
 
 // Makes at most `budget` arrivals in a sound world, each of the lowest letter, in batches.
-pub fn settle_sound(w: &mut [u16], x: &mut [u64], budget: u32) -> Settling
-    requires { SoundWords w.old × Index (view w.old) x.old }
-    ensures answer { settling_reply result ≡ gives (settle_words lowest_first w.old budget).ending }
+pub fn settle_sound(w: &mut Words, x: &mut index::Table, budget: u32) -> Settling
+    requires sound { Sound (view w.old) }
+    requires index { Index (view w.old) x.old }
+    ensures answer { ending_of result ≡ (settle_words lowest_first w.old budget).ending }
     ensures words { w.new ≡ (settle_words lowest_first w.old budget).world }
 {
     let up = letters::up_mask(w);
-    let mut quiescent: u16 = 0;
-    let mut place = at(0, 0, 0);
-    let mut made: u32 = 0;
-    while made < budget {
-        let Letter::At(k, m, q, p) = letters::lowest_letter(w, up, place) else {
-            return Settling::Done(made);
+    let mut reached = Reached {
+        made: 0,
+        quiescent: 0,
+        place: Place {
+            message: 0,
+            kind: 0,
+            origin: 0,
+        },
+    };
+    while reached.made < budget {
+        let Some(letter) = letters::lowest_letter(w, up, reached.place) else {
+            return Settling::Done(reached.made);
         };
-        let receivers = letters::receivers(w, up, m, k, q);
-        let b = batch(w, x, up, k, m, q, receivers, quiescent, made, budget);
-        quiescent = b.quiescent;
-        let at = b.place;
-        place = at;
-        made = b.made;
+        reached.place = Place {
+            message: letter.message,
+            kind: letter.kind,
+            origin: letter.from,
+        };
+        let receivers = letters::receivers(w, up, letter.message, letter.kind, letter.from);
+        reached = batch(w, x, up, receivers, reached, budget);
     }
-    match letters::lowest_letter(w, up, place) {
-        Letter::At(_, _, _, _) => Settling::Stopped(made),
-        Letter::Nothing => Settling::Done(made),
+    match letters::lowest_letter(w, up, reached.place) {
+        Some(_) => Settling::Stopped(reached.made),
+        None => Settling::Done(reached.made),
     }
 }

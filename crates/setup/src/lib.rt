@@ -1,35 +1,20 @@
 // The setup record of a world: read and tested.
 #![tactic(auto)]
 
-ghost use Rattle.std.specs.Prelude.{◌≡◌, ◌+◌, ◌*◌, ◌≤◌, ◌<◌, length, get_or};
+ghost use Rattle.std.specs.Prelude.{◌≡◌, ◌≤◌, ◌<◌};
 ghost use Rattle.definitions.specs.World.{has_group};
 ghost use Rattle.definitions.specs.Setup.{fresh, setup_bits, good_setup};
 ghost use Rattle.setup.specs.Groups.{group_in, follows, no_gap};
 
-// A byte as a number of 64 bits.
-fn wide(x: u8) -> u64
-    ensures { (result ≡ x) × (result < 256) }
-{
-    x as u64
-}
-
-// Bytes i and i + 1, low byte first.
-fn pair(setup: &[u8], i: usize) -> u64
-    requires { i + 1 < length setup.now }
-    ensures { (result ≡ get_or setup.now i 0 + get_or setup.now (i + 1) 0 * 256) × (result < 65536) }
-{
-    wide(setup[i]) + wide(setup[i + 1]) * 256
-}
-
 // The 48 bits of a setup record, low byte first.
-pub fn bits(setup: &[u8]) -> u64
-    requires { length setup.now ≡ 8 }
+pub fn bits(setup: &[u8; 8]) -> u64
     ensures { result ≡ setup_bits setup.now }
 {
-    pair(setup, 2) + pair(setup, 4) * 65536 + pair(setup, 6) * 4294967296
+    u64::from_le_bytes(*setup) >> 16
 }
 
 // The group of process i.
+#[tactic(auto, unfolding(crate::specs::Groups::group_in))]
 pub fn group_of(bits: u64, i: usize) -> u64
     requires { i < 16 }
     ensures { result ≡ group_in bits i }
@@ -42,12 +27,10 @@ fn has(bits: u64, n: usize, g: u64) -> bool
     requires { n ≤ 16 }
     ensures { result ≡ has_group (fresh n (group_in bits)) g }
 {
-    let mut p: usize = 0;
-    while p < n {
+    for p in 0..n {
         if group_of(bits, p) == g {
             return true;
         }
-        p += 1;
     }
     false
 }
@@ -58,10 +41,7 @@ fn follows_one(bits: u64, n: usize, p: usize) -> bool
     ensures { result ≡ follows bits n p }
 {
     let g = group_of(bits, p);
-    if g == 0 {
-        return true;
-    }
-    has(bits, n, g - 1)
+    g == 0 || has(bits, n, g - 1)
 }
 
 // Whether the groups are numbered from 0 without a gap.
@@ -69,12 +49,10 @@ fn without_gap(bits: u64, n: usize) -> bool
     requires { n ≤ 16 }
     ensures { result ≡ no_gap bits n }
 {
-    let mut p: usize = 0;
-    while p < n {
+    for p in 0..n {
         if !follows_one(bits, n, p) {
             return false;
         }
-        p += 1;
     }
     true
 }
@@ -83,22 +61,13 @@ fn without_gap(bits: u64, n: usize) -> bool
 pub fn good(setup: &[u8]) -> bool
     ensures { result ≡ good_setup setup.now }
 {
-    if setup.len() != 8 {
+    let Ok(setup) = <&[u8; 8]>::try_from(setup) else {
         return false;
-    }
-    if setup[0] != 0 {
-        return false;
-    }
-    let n = parts::wide(setup[1]);
-    if n < 1 {
-        return false;
-    }
-    if 16 < n {
+    };
+    let n = usize::from(setup[1]);
+    if setup[0] != 0 || n < 1 || 16 < n {
         return false;
     }
     let all = bits(setup);
-    if (all >> (3 * n)) != 0 {
-        return false;
-    }
-    without_gap(all, n)
+    all >> (3 * n) == 0 && without_gap(all, n)
 }

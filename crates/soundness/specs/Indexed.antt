@@ -17,23 +17,16 @@ use Rattle.sets.specs.Lowest.{Has}
 use Rattle.sets.specs.Below.{has_none, has_more}
 use Rattle.sets.specs.Powers.{Powers}
 use Rattle.index.specs.Index.{Index}
-use Rattle.limits.specs.Addressees.{Addressees, addressees_of}
-use Rattle.blocks.specs.Known.{Tables}
+use Rattle.limits.specs.Addressees.{addressees_of}
+use Rattle.blocks.specs.declared.Known.{Known}
+use Rattle.blocks.specs.Known.{Ready}
 use Rattle.blocks.specs.Places.{in_log, open_place, Rows}
 
--- The index and the tables have room.
-pub record Room (x : List ℕ) (messages : ℕ) (to from bits : List ℕ) : Type 0 where
-  pub long : length x ≡ 112
-  pub few : messages ≤ 64
-  pub addressees : length to ≡ 64
-  pub senders : length from ≡ 64
-  pub small : (m : ℕ) → m < 64 → get_or from m 0 < 16
-  pub powers : Powers bits
-
--- Every number is zero.
-pub record Cleared (x : List ℕ) : Type 0 where
-  pub long : length x ≡ 112
-  pub none : (j : ℕ) → j < 112 → get_or x j 0 ≡ 0
+-- The index has room for what is known.
+pub record Room (t : Known) : Type 0 where
+  pub few : t.count ≤ 64
+  pub small : (m : ℕ) → m < 64 → get_or t.from m 0 < 16
+  pub powers : Powers t.bits
 
 -- x has what the first k messages enter.
 pub record Entered (to from : List ℕ) (k : ℕ) (x : List ℕ) : Type 0 where
@@ -50,18 +43,6 @@ pub record Tested (s : State) (good : Bool) (x : List ℕ) : Type 0 where
 pub tested_not : (s : State) (x : List ℕ) → false ≡ sound s → Tested s false x
 tested_not s x e = record { is_good = e; index = λ q. clash {b = false} q refl }
 
--- ---- the index cleared
-pub room_cleared : (x y : List ℕ) (messages : ℕ) (to from bits : List ℕ) → Cleared y
-    → Room x messages to from bits → Room y messages to from bits
-room_cleared x y messages to from bits e h = record {
-  long = e.long;
-  few = h.few;
-  addressees = h.addressees;
-  senders = h.senders;
-  small = h.small;
-  powers = h.powers;
-}
-
 -- ---- the loop over the messages: none yet, one more
 pub entered_none : (to from x : List ℕ) → length x ≡ 112 → ((j : ℕ) → j < 112 → get_or x j 0 ≡ 0) → Entered to from 0 x
 entered_none to from x l h = record {
@@ -74,56 +55,64 @@ entered_none to from x l h = record {
 
 pub entered_more : (to from bits : List ℕ) (k q : ℕ) (x : List ℕ) → k < 64 → Powers bits → q ≡ get_or from k 0 → q < 16
     → Entered to from k x
-    → Entered to from (k + 1) (set (set x k (get_or to k 0)) (64 + q) (bit_or (get_or x (64 + q) 0) (get_or bits k 0)))
+    → Entered to from (k + 1) (set (set x (64 + q) (bit_or (get_or x (64 + q) 0) (get_or bits k 0))) k (get_or to k 0))
 entered_more to from bits k q x hk pw eq hq h = record {
   long = simp (length-set, length-set) h.long;
-  to_at = λ m l. get_or-set_other one (64 + q) m v 0 (λ e. omega arith) ∙ at m l (ℕ_discrete m k);
+  to_at = λ m l. at m l (ℕ_discrete m k);
   own = λ y l. go y l (ℕ_discrete y q);
-  none = λ j a b. get_or-set_other one (64 + q) j v 0 (λ e. omega arith)
-      ∙ get_or-set_other x k j (get_or to k 0) 0 (λ e. omega arith) ∙ h.none j a b;
+  none = λ j a b. other j (λ e. omega arith) ∙ get_or-set_other x (64 + q) j v 0 (λ e. omega arith) ∙ h.none j a b;
 }
   where
-    one : List ℕ
-    one = set x k (get_or to k 0)
-
     v : ℕ
     v = bit_or (get_or x (64 + q) 0) (get_or bits k 0)
 
-    two : List ℕ
-    two = set (set x k (get_or to k 0)) (64 + q) (bit_or (get_or x (64 + q) 0) (get_or bits k 0))
+    one : List ℕ
+    one = set x (64 + q) (bit_or (get_or x (64 + q) 0) (get_or bits k 0))
 
-    at : (m : ℕ) → m < k + 1 → Dec (m ≡ k) → get_or one m 0 ≡ get_or to m 0
+    two : List ℕ
+    two = set (set x (64 + q) (bit_or (get_or x (64 + q) 0) (get_or bits k 0))) k (get_or to k 0)
+
+    other : (j : ℕ) → (j ≡ k → ⊥) → get_or two j 0 ≡ get_or one j 0
+    other j d = get_or-set_other one k j (get_or to k 0) 0 d
+
+    at : (m : ℕ) → m < k + 1 → Dec (m ≡ k) → get_or two m 0 ≡ get_or to m 0
     at m l (yes e) =
-        ap (λ (y : ℕ). get_or one y 0) e ∙ get_or-set_same x k (get_or to k 0) 0 (let z = h.long in omega arith)
+        ap (λ (y : ℕ). get_or two y 0) e
+        ∙ get_or-set_same one k (get_or to k 0) 0 (simp length-set (let z = h.long in omega arith))
         ∙ ap (λ (y : ℕ). get_or to y 0) (sym e)
-    at m l (no d) = get_or-set_other x k m (get_or to k 0) 0 d ∙ h.to_at m (omega arith)
+    at m l (no d) = other m d ∙ get_or-set_other x (64 + q) m v 0 (λ e. omega arith) ∙ h.to_at m (omega arith)
 
     go : (y : ℕ) → y < 16 → Dec (y ≡ q)
         → Has (get_or two (64 + y) 0) (λ m. both (ltb m (k + 1)) (eqb (get_or from m 0) y))
     go y l (yes e) =
         has_more (get_or x (64 + y) 0) (get_or two (64 + y) 0) k (λ m. eqb (get_or from m 0) y) true (h.own y l)
         (sym (eq-eqb (get_or from k 0) y (sym eq ∙ sym e)))
-        (ap (λ (z : ℕ). get_or two (64 + z) 0) e
-        ∙ get_or-set_same one (64 + q) v 0 (simp length-set (let z = h.long in omega arith))
+        (other (64 + y) (λ z. omega arith)
+        ∙ ap (λ (z : ℕ). get_or one (64 + z) 0) e
+        ∙ get_or-set_same x (64 + q) v 0 (let z = h.long in omega arith)
         ∙ ap (bit_or (get_or x (64 + q) 0)) (pw.at k hk) ∙ or_with (get_or x (64 + q) 0) k
         ∙ ap (λ (z : ℕ). with (get_or x (64 + z) 0) k) (sym e))
     go y l (no d) =
         has_more (get_or x (64 + y) 0) (get_or two (64 + y) 0) k (λ m. eqb (get_or from m 0) y) false (h.own y l)
         (sym (ne_eqb (get_or from k 0) y (λ z. d (sym z ∙ sym eq))))
-        (get_or-set_other one (64 + q) (64 + y) v 0 (λ z. d (omega arith))
-        ∙ get_or-set_other x k (64 + y) (get_or to k 0) 0 (λ z. omega arith))
+        (other (64 + y) (λ z. omega arith)
+        ∙ get_or-set_other x (64 + q) (64 + y) v 0 (λ z. d (omega arith)))
 
 -- ---- the whole
-module _ (w : List ℕ) (n messages : ℕ) (to from bits : List ℕ) (en : n ≡ view w size) (ec : messages ≡ view w count)
-    (few : messages ≤ 64) (a : Addressees (view w) to) (t : Tables (view w) messages from bits) (x₁ x₂ : List ℕ)
-    (e : Entered to from messages x₁) (good : Bool) (r : Rows (view w) n good x₁ x₂) (ok : good ≡ true)
-    (yes : sound (view w) ≡ true) where
+module _ (w : List ℕ) (t : Known) (h : Ready w t) (x₁ x₂ : List ℕ) (e : Entered t.addressees t.from t.count x₁)
+    (r : Rows (view w) t.size true x₁ x₂) (yes : sound (view w) ≡ true) where
+  en : t.size ≡ view w size
+  en = h.sized.size_is
+
+  ec : t.count ≡ view w count
+  ec = h.sized.count_is
+
   -- the logs of an absent process are empty
   empty : (b : Bool) (x : ℕ) (c : Bool) → b ≡ false → word b x c ≡ true → x ≡ 0
   empty true x c q p = clash {b = true} refl q
   empty false x c q p = eqb-true x 0 p
 
-  no_log : (p : ℕ) → n ≤ p → p < 16 → view w (fifo_length p) ≡ 0
+  no_log : (p : ℕ) → t.size ≤ p → p < 16 → view w (fifo_length p) ≡ 0
   unfolding fine fit
   no_log p l k =
       empty (is_process (view w) p) (view w (fifo_length p)) _ (le-ltb p (view w size) (omega arith))
@@ -142,33 +131,33 @@ module _ (w : List ℕ) (n messages : ℕ) (to from bits : List ℕ) (en : n ≡
   unfolding addressees_of
   index_law = record {
     long = r.long;
-    to = λ m l. let k : m < messages = omega arith in
-        r.before m (omega arith) ∙ e.to_at m k ∙ a.at m (omega arith)
+    to = λ m l. let k : m < t.count = omega arith in
+        r.before m (omega arith) ∙ e.to_at m k ∙ h.to.at m (omega arith)
         ∙ ap (λ (b : Bool). pick b (addressees (view w) m) 0) (lt-ltb m (view w count) l);
     own = λ q l m k. ap (λ (y : ℕ). bit y m) (r.before (64 + q) (omega arith)) ∙ e.own q l m k
-        ∙ is_own q m (le_or_lt messages m);
-    listed = λ p l m k. of_log p l m k (le_or_lt n p);
-    opened = λ p l i k. of_place p l i k (le_or_lt n p);
+        ∙ is_own q m (le_or_lt t.count m);
+    listed = λ p l m k. of_log p l m k (le_or_lt t.size p);
+    opened = λ p l i k. of_place p l i k (le_or_lt t.size p);
   }
     where
-      is_own : (q m : ℕ) → (messages ≤ m) ⊎ (m < messages)
-          → both (ltb m messages) (eqb (get_or from m 0) q) ≡ both (ltb m (view w count)) (eqb (view w (sender m)) q)
+      is_own : (q m : ℕ) → (t.count ≤ m) ⊎ (m < t.count)
+          → both (ltb m t.count) (eqb (get_or t.from m 0) q) ≡ both (ltb m (view w count)) (eqb (view w (sender m)) q)
       is_own q m (inl l) =
-          ap (λ (b : Bool). both b (eqb (get_or from m 0) q)) (le-ltb m messages l)
+          ap (λ (b : Bool). both b (eqb (get_or t.from m 0) q)) (le-ltb m t.count l)
           ∙ sym (ap (λ (b : Bool). both b (eqb (view w (sender m)) q)) (le-ltb m (view w count) (omega arith)))
       is_own q m (inr l) =
-          ap₂ (λ (k y : ℕ). both (ltb m k) (eqb y q)) ec (t.senders.at m l)
+          ap₂ (λ (k y : ℕ). both (ltb m k) (eqb y q)) ec (h.senders.at m l)
 
-      of_log : (p : ℕ) → p < 16 → (m : ℕ) → m < 64 → (n ≤ p) ⊎ (p < n)
+      of_log : (p : ℕ) → p < 16 → (m : ℕ) → m < 64 → (t.size ≤ p) ⊎ (p < t.size)
           → bit (get_or x₂ (80 + p) 0) m ≡ in_log (view w) p m
       of_log p l m k (inl z) =
           ap (λ (y : ℕ). bit y m) (r.listed_past p z l ∙ e.none (80 + p) (omega arith) (omega arith))
           ∙ bit_zero m ∙ none_listed p m (no_log p z l)
-      of_log p l m k (inr z) = r.listed ok p z m k
+      of_log p l m k (inr z) = r.listed refl p z m k
 
-      of_place : (p : ℕ) → p < 16 → (i : ℕ) → i < 64 → (n ≤ p) ⊎ (p < n)
+      of_place : (p : ℕ) → p < 16 → (i : ℕ) → i < 64 → (t.size ≤ p) ⊎ (p < t.size)
           → bit (get_or x₂ (96 + p) 0) i ≡ open_place (view w) p i
       of_place p l i k (inl z) =
           ap (λ (y : ℕ). bit y i) (r.opened_past p z l ∙ e.none (96 + p) (omega arith) (omega arith))
           ∙ bit_zero i ∙ none_open p i (no_log p z l)
-      of_place p l i k (inr z) = r.opened ok p z i k
+      of_place p l i k (inr z) = r.opened refl p z i k

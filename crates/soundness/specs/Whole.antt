@@ -1,6 +1,6 @@
 -- The parts of the test are the whole world: what exists, the blocks, and the ranges of zeros. Assumes
 -- nothing.
-use Rattle.std.specs.Prelude.{◌≡◌, Bool, ◌&&◌, List, ℕ, zero, suc, ◌+◌, ◌-◌, ◌*◌, ◌≤◌, ◌<◌, ltb, eqb, length}
+use Rattle.std.specs.Prelude.{◌≡◌, Bool, ◌&&◌, Some, List, ℕ, zero, suc, ◌+◌, ◌-◌, ◌*◌, ◌≤◌, ◌<◌, ltb, eqb, length}
 use Rattle.std.proofs.Math.Path.{refl, ap, ap₂}
 use Rattle.std.proofs.Common.{sym, ◌∙◌, arith, suc-mul, zero-mul}
 use Rattle.std.proofs.Math.Bool.{true, false}
@@ -18,7 +18,10 @@ use Rattle.heads.specs.Groups.{GroupTest}
 use Rattle.heads.specs.Messages.{heads_fine}
 use Rattle.limits.specs.Limits.{Limits}
 use Rattle.limits.specs.Addressees.{Addressees}
+use Rattle.limits.specs.Senders.{Senders}
+use Rattle.sets.specs.Powers.{Powers}
 use Rattle.regions.specs.Runs.{fine_run, run_one, run_split, run_join, run_cut}
+use Rattle.blocks.specs.declared.Known.{Known}
 use Rattle.blocks.specs.Known.{Ready}
 use Rattle.blocks.specs.Process.{processes_fine}
 use Rattle.blocks.specs.Message.{messages_fine}
@@ -91,11 +94,9 @@ module _ (w : List ℕ) (n messages spare : ℕ) (en : n ≡ view w size) (ec : 
 pub groups_sound : (s : State) (n : ℕ) → n ≤ 16 → sound s ≡ true → every n (λ p. fine s (group p)) ≡ true
 groups_sound s n h e = every_intro n (λ p. fine s (group p)) (λ p l. sound_facts s e (group p) (omega arith))
 
-pub groups_placed : (s : State) (n : ℕ) (good : Bool) (set : ℕ) → n ≡ s size → GroupTest s n good set → good
-    ≡ true
-    → Placed s
-groups_placed s n good set en h e = record {
-  fine_groups = λ p l. every_true n (λ q. fine s (group q)) (sym h.is_good ∙ e) p (omega arith);
+pub groups_placed : (s : State) (n set : ℕ) → n ≡ s size → GroupTest s n (Some set) → Placed s
+groups_placed s n set en h = record {
+  fine_groups = λ p l. every_true n (λ q. fine s (group q)) (sym h.is_good) p (omega arith);
 }
 
 pub heads_sound : (s : State) (k : ℕ) → k ≤ 64 → sound s ≡ true → heads_fine s k ≡ true
@@ -116,17 +117,17 @@ heads_headed s k ek e = record {
     at m l = every_true k (λ m. fine s (sender m) && fine s (mask m)) e m l
 
 -- ---- the tables
-pub ready : (w : List ℕ) (n messages groups c : ℕ) (limits addressees : List ℕ) → Sized w n messages
+pub ready : (w : List ℕ) (t : Known) (groups c : ℕ) → Sized w t.size t.count
     → Grouped (view w) groups → Placed (view w) → Headed (view w) → c ≡ view w count
-    → Limits n groups c limits
-    → Addressees (view w) addressees → Ready w n messages limits addressees
-ready w n messages groups c limits addressees z g p h ec l a = record {
+    → Limits t.size groups c t.limits
+    → Addressees (view w) t.addressees → Senders (view w) t.count t.from → Powers t.bits → Ready w t
+ready w t groups c z g p h ec l a f b = record {
   sized = z;
   placed = p;
   headed = h;
   bounds = record {
     long = l.long;
-    pairs = λ x q k m. l.pairs x q k m ∙ ap₂ (λ (b : Bool) (y : ℕ). pick (b && ltb q n) y 0) (g.exist x) ec
+    pairs = λ x q k m. l.pairs x q k m ∙ ap₂ (λ (b : Bool) (y : ℕ). pick (b && ltb q t.size) y 0) (g.exist x) ec
         ∙ ap (λ (y : ℕ). pick (has_group (view w) x && ltb q y) (view w count) 0) z.size_is;
     alone = λ x k. l.alone x k ∙ ap₂ (λ (b : Bool) (y : ℕ). pick b y 0) (g.exist x) ec;
     processes = λ q k. l.processes q k ∙ ap₂ (λ (x y : ℕ). pick (ltb q x) y 0) z.size_is ec;
@@ -134,6 +135,8 @@ ready w n messages groups c limits addressees z g p h ec l a = record {
     past = l.past;
   };
   to = a;
+  senders = f;
+  powers = b;
 }
 
 -- ---- what is past the blocks of the processes

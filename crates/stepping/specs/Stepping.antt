@@ -1,12 +1,13 @@
 -- What a taken step may lean on in a sound world, and the words after a step that is taken or refused.
 -- Assumes nothing.
-use Rattle.std.specs.Prelude.{◌≡◌, Bool, List, ℕ, ◌<◌, length}
-use Rattle.std.proofs.Common.{sym, ap, ◌∙◌, subst, arith, eq-eqb, ne_eqb}
+use Rattle.std.specs.Prelude.{◌≡◌, Bool, List, ℕ, ◌<◌, length, Option, None, Result, Ok, Err}
+use Rattle.std.specs.Option.{ok_or}
+use Rattle.std.proofs.Common.{sym, ap, ◌∙◌, arith, eq-eqb, ne_eqb}
 use Rattle.definitions.specs.General.{pick}
 use Rattle.definitions.specs.World.{size, count, State, put, encode, view}
 use Rattle.definitions.specs.Machine.{leave, crash}
 use Rattle.definitions.specs.Steps.{Step, multicasts, arrives, loses, trusts, crashes, malformed, refusal, step, after}
-use Rattle.definitions.specs.Answers.{refusal_number}
+use Rattle.definitions.specs.Answers.{refusal_number, outcome_number}
 use Rattle.definitions.specs.declared.Refusal.{Refusal}
 use Rattle.definitions.specs.declared.Refusal.TheVariants as variants
 use Rattle.answers.specs.Laws.{refusal_some}
@@ -21,21 +22,11 @@ use Rattle.multicasts.specs.Raise.{Low}
 use Rattle.multicasts.specs.Multicast.{sound_low}
 use Rattle.given.specs.declared.Given.{Given}
 use Rattle.given.specs.Given.{step_of}
-use Rattle.stepping.specs.declared.Judged.{Judged}
-use Rattle.stepping.specs.declared.Judged.TheVariants as judged
 
 -- ---- what a judged step says of the step y in s: that it is taken, and asked for as x; or its refusal
-abbrev pub Judges : Judged → State → Step → Type 0
-Judges (judged.Taken x) s y = (refusal s y ≡ 0) × (step_of x ≡ y)
-Judges (judged.Refused r) s y = refusal_number r ≡ refusal s y
-
-pub judged_taken : (s : State) (y : Step) {j : Judged} {x : Given} → j ≡ judged.Taken x → Judges j s y
-    → (refusal s y ≡ 0) × (step_of x ≡ y)
-judged_taken s y e h = subst (λ (z : Judged). Judges z s y) e h
-
-pub judged_refused : (s : State) (y : Step) {j : Judged} {r : Refusal} → j ≡ judged.Refused r → Judges j s y
-    → refusal_number r ≡ refusal s y
-judged_refused s y e h = subst (λ (z : Judged). Judges z s y) e h
+abbrev pub Judges : Result Given Refusal → State → Step → Type 0
+Judges (Ok x) s y = (refusal s y ≡ 0) × (step_of x ≡ y)
+Judges (Err r) s y = refusal_number r ≡ refusal s y
 
 -- ---- the words
 pub words_taken : (w : List ℕ) (x : Step) → refusal (view w) x ≡ 0
@@ -58,6 +49,10 @@ pub malformed_refused : (s : State) {x : Step} → malformed ≡ x → refusal_n
 unfolding refusal
 malformed_refused s e = ap (refusal s) e
 
+pub malformed_number : {A : Type 0} {o : Option A} {r : Refusal} → Err r ≡ ok_or o variants.Malformed → o ≡ None
+    → refusal_number r ≡ refusal_number variants.Malformed
+malformed_number {A} h e = ap outcome_number (h ∙ ap (λ (z : Option A). ok_or z variants.Malformed) e)
+
 -- ---- what a taken step leans on
 module _ (w x : List ℕ) (l : length w ≡ 20480) (h : Sound (view w)) (z : Index (view w) x) where
   abbrev s : State
@@ -67,11 +62,11 @@ module _ (w x : List ℕ) (l : length w ≡ 20480) (h : Sound (view w)) (z : Ind
   process p k = omega (arith, size_high s h)
 
   pub can_multicast : (p groups o : ℕ) → refusal s (multicasts p groups o) ≡ 0
-      → (length w ≡ 20480) × (p < 16) × (s count < 64) × Bounds s × Low s p × Index s x
+      → (p < 16) × (s count < 64) × Bounds s × Low s p
   can_multicast p groups o e =
       let a = accepted_multicast s p groups o (eq-eqb _ 0 e) in
       let k = process p a.process in
-      (l, k, a.room, sound_bounds s h, sound_low s p k h, z)
+      (k, a.room, sound_bounds s h, sound_low s p k h)
 
   pub can_arrive : (k m q p : ℕ) (b : Bool) → AllQuiescentIf b s → refusal s (arrives k m q p) ≡ 0 → Arrives w x k m q p b
   can_arrive k m q p b all e =
@@ -90,25 +85,22 @@ module _ (w x : List ℕ) (l : length w ≡ 20480) (h : Sound (view w)) (z : Ind
       }
 
   pub can_lose : (k m q p : ℕ) → refusal s (loses k m q p) ≡ 0
-      → (length w ≡ 20480) × (k < 3) × (m < 64) × (q < 16) × (p < 16)
+      → (k < 3) × (m < 64) × (q < 16) × (p < 16)
   can_lose k m q p e =
       let a = accepted_loss s k m q p (eq-eqb _ 0 e) in
       let x : m < 64 = omega (arith, a.message, count_high s h) in
-      (l, a.kind, x, process q a.from, process p a.to)
+      (a.kind, x, process q a.from, process p a.to)
 
   pub can_trust : (p set : ℕ) → refusal s (trusts p set) ≡ 0
-      → (length w ≡ 20480) × (p < 16) × Bounds s × Index s x × Logs s p
+      → (p < 16) × Bounds s × Logs s p
   can_trust p set e =
       let a = (accepted_trust s p set (eq-eqb _ 0 e)).process in
-      (l, process p a, sound_bounds s h, z, sound_logs s p h a)
+      (process p a, sound_bounds s h, sound_logs s p h a)
 
-  pub can_crash : (p : ℕ) → refusal s (crashes p) ≡ 0 → (length w ≡ 20480) × (p < 16)
-  can_crash p e = (l, process p (accepted_crash s p (eq-eqb _ 0 e)).0)
+  pub can_crash : (p : ℕ) → refusal s (crashes p) ≡ 0 → p < 16
+  can_crash p e = process p (accepted_crash s p (eq-eqb _ 0 e)).0
 
 -- ---- what is so of a kind of step is so of the step that has this kind
-pub of_kind : {n : ℕ} {x y : Given} (s : State) → x ≡ y → n ≡ refusal s (step_of y) → n ≡ refusal s (step_of x)
-of_kind s e h = h ∙ ap (λ (z : Given). refusal s (step_of z)) (sym e)
-
 pub taken_as : {x y : Given} (s : State) → x ≡ y → refusal s (step_of x) ≡ 0 → refusal s (step_of y) ≡ 0
 taken_as s e h = ap (λ (z : Given). refusal s (step_of z)) (sym e) ∙ h
 

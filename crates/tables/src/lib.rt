@@ -1,26 +1,17 @@
 // The counters of a message, an array of arrays by value: read from the words, and merged entry by entry by maximum.
 #![tactic(auto)]
 
-ghost use Rattle.std.specs.Prelude.{◌≡◌, ◌+◌, ◌≤◌, length, take, drop, max};
+ghost use Rattle.std.specs.Prelude.{◌≡◌, ◌+◌, ◌≤◌, length, take, drop};
 ghost use Rattle.base.specs.Tabulate.{splice};
 ghost use Rattle.tables.specs.Table.{max_row, max_table, table_at, concat};
 
-// The larger of two.
-fn larger(x: u16, y: u16) -> u16
-    ensures { result ≡ max x y }
-{
-    if x < y { y } else { x }
-}
-
-// A row merged entrywise.
+// A row merged entrywise. By index: tried over both rows zipped, and the proof does not close without an invariant of the iterator.
 pub fn merged_row(a: [u16; 16], b: [u16; 16]) -> [u16; 16]
     ensures { result ≡ max_row a b }
 {
     let mut r = a;
-    let mut i: usize = 0;
-    while i < 16 {
-        r[i] = larger(r[i], b[i]);
-        i += 1;
+    for i in 0..16 {
+        r[i] = r[i].max(b[i]);
     }
     r
 }
@@ -30,12 +21,10 @@ pub fn merged(a: [[u16; 16]; 8], b: [[u16; 16]; 8]) -> [[u16; 16]; 8]
     ensures { result ≡ max_table a b }
 {
     let mut t = a;
-    let mut g: usize = 0;
-    while g < 8 {
+    for g in 0..8 {
         let x = t[g];
         let y = b[g];
         t[g] = merged_row(x, y);
-        g += 1;
     }
     t
 }
@@ -56,10 +45,8 @@ pub fn table_at(w: &[u16], base: usize) -> [[u16; 16]; 8]
     ensures { result ≡ table_at 8 16 (drop base w.now) }
 {
     let mut t = [[0u16; 16]; 8];
-    let mut g: usize = 0;
-    while g < 8 {
+    for g in 0..8 {
         t[g] = row_at(w, base + g * 16);
-        g += 1;
     }
     t
 }
@@ -69,11 +56,9 @@ pub fn put_table(w: &mut [u16], base: usize, t: [[u16; 16]; 8])
     requires { base + 128 ≤ length w.old }
     ensures { w.new ≡ splice w.old base (concat t) }
 {
-    let mut g: usize = 0;
-    while g < 8 {
+    for g in 0..8 {
         let r = t[g];
         cells::put(w, base + g * 16, &r);
-        g += 1;
     }
 }
 

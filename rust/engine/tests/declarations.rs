@@ -76,7 +76,7 @@ fn after_colon(parameter: &str) -> &str {
 
 #[test]
 fn header_and_wrapper_declare_what_the_engine_exports() {
-    let engine = declared("crates/engine_c/src/lib.rt", "pub extern \"C\" fn ", of_rattle);
+    let engine = declared("crates/engine/src/lib.rt", "pub extern \"C\" fn ", of_rattle);
     assert!(engine.len() >= 15, "{} functions", engine.len());
     assert_eq!(declared("include/wardrobeteal.h", "\nuint32_t ", of_c), engine);
     assert_eq!(declared("rust/engine/src/raw.rs", "\n    fn ", of_rust), engine);

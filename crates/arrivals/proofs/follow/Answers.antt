@@ -17,11 +17,11 @@ abbrev now_held : After-take_hold-at → State
 now_held c = let a = c.args in hold (view a.w.now) a.p a.m
 
 is_held : (c : After-take_hold-at) → c.take_hold-at.new.w ≡ encode (now_held c)
-is_held c = held_state c.args.only c.requires c.take_hold-at.ensures.words.0 c.take_hold-at.ensures.words.1
+is_held c = held_state c.args.only c.requires (omega arith) c.take_hold-at.ensures.words
 
 leans : (c : After-take_hold-at)
     → let a = c.args in Leans c.take_hold-at.new.w a.x.now a.p a.m a.only
-leans c = held_leans c.args.only c.requires c.take_hold-at.ensures.words.0 c.take_hold-at.ensures.words.1
+leans c = held_leans c.args.only c.requires (omega arith) c.take_hold-at.ensures.words
 
 -- what was sent until then, of a set that has the message where it was answered
 answers : (c : After-take_hold-at) (oks : ℕ) {sent : ℕ}
@@ -40,12 +40,12 @@ high c =
 
 pub ready_now-ready-requires : goal.ready_now-ready-requires
 ready_now-ready-requires c =
-    let l = leans (goal.at.ready_now-ready-requires c).After-take_hold-at in (l.0, l.1, l.2, l.3, l.4, l.6)
+    let l = leans (goal.at.ready_now-ready-requires c).After-take_hold-at in
+    record { p_in = l.1; m_in = l.2; bounds = l.3; index = l.4; only_m = l.6 }
 
 pub returns-then-ready-eq0-clause-words : goal.returns-then-ready-eq0-clause-words
 returns-then-ready-eq0-clause-words c =
-    let h = c.take_hold-at.ensures in
-    (h.words.0, none_follows c.args.only c.requires h.words.0 h.words.1 c.if-ready-eq0.true c.ready_now-ready.ensures)
+    none_follows c.args.only c.requires (omega arith) c.take_hold-at.ensures.words c.if-ready-eq0.true c.ready_now-ready.ensures
 
 pub returns-then-ready-eq0-clause-index : goal.returns-then-ready-eq0-clause-index
 returns-then-ready-eq0-clause-index c =
@@ -66,7 +66,7 @@ returns-then-ready-eq0-clause-messages c = let after_take_hold_at = (goal.at.ret
 pub cascade-oks-requires : goal.cascade-oks-requires
 cascade-oks-requires c =
     let l = leans (goal.at.cascade-oks-requires c).After-take_hold-at in
-    (l.0, l.1, l.3, l.4, l.5, c.ready_now-ready.ensures)
+    record { p_in = l.1; bounds = l.3; index = l.4; logs = l.5; ready = c.ready_now-ready.ensures }
 
 pub overflow_mul-lowest : goal.overflow_mul-lowest
 overflow_mul-lowest c = omega (arith, high (goal.at.overflow_mul-lowest c).After-lowest)
@@ -84,11 +84,11 @@ returns-clause-place c = let after_take_hold_at = (goal.at.returns-clause-place 
     let v = view a.w.now in
     let h = now_held after_take_hold_at in
     let z = c.cascade-oks.ensures in
-    let left = z.words.1 h (is_held after_take_hold_at) in
+    let left = z.words h (is_held after_take_hold_at) in
     let oks = c.cascade-oks.result in
-    silent_words v (cascade h a.p) c.cascade-oks.new.w c.least-place.result left
-    (silent_both v h (cascade h a.p) c.take_hold-at.result (c.lowest.result * 48 + 32 + a.p) c.least-place.result
-    c.least-place.ensures.0 c.least-place.ensures.1 c.take_hold-at.ensures.place
+    silent_words v (cascade h a.p) c.cascade-oks.new.w c.min-place.result left
+    (silent_both v h (cascade h a.p) c.take_hold-at.result (c.lowest.result * 48 + 32 + a.p) c.min-place.result
+    (omega (arith, c.min-place.ensures)) (omega (arith, c.min-place.ensures)) c.take_hold-at.ensures.place
     (cascade_silent h a.p oks _ (z.unsent h (is_held after_take_hold_at)) (omega (arith, c.lowest.ensures))))
 
 pub returns-clause-messages : goal.returns-clause-messages
@@ -97,7 +97,7 @@ returns-clause-messages c = let after_take_hold_at = (goal.at.returns-clause-mes
     let v = view a.w.now in
     let h = now_held after_take_hold_at in
     let z = c.cascade-oks.ensures in
-    let left = z.words.1 h (is_held after_take_hold_at) in
+    let left = z.words h (is_held after_take_hold_at) in
     let oks = c.cascade-oks.result in
     let all = c.join_if-all.result in posts_words v (cascade h a.p) c.cascade-oks.new.w a.p all left
     (posts_both v h (cascade h a.p) a.p all (answers after_take_hold_at oks c.join_if-all.ensures)

@@ -7,11 +7,11 @@ use Rattle.arrivals.proofs.ready_now.Goals as goal
 pub returns-then-is_ready : goal.returns-then-is_ready
 returns-then-is_ready c =
     let a = c.args in
-    ready_one a.only (view a.w.now) a.p a.m c.if-not-only.false c.requires.5 c.requires.2
+    ready_one a.only (view a.w.now) a.p a.m c.if-not-only.false c.requires.only_m c.requires.m_in
     (sym c.is_ready.ensures ∙ c.if-is_ready.true) c.join.ensures
 
 pub returns : goal.returns
 returns c =
     let a = c.args in
-    ready_no a.only (view a.w.now) a.p a.m c.if-not-only.false c.requires.5
+    ready_no a.only (view a.w.now) a.p a.m c.if-not-only.false c.requires.only_m
     (sym c.is_ready.ensures ∙ c.if-is_ready.false)

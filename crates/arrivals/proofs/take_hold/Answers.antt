@@ -3,7 +3,6 @@ use mathlib.Core.Path.{sym, ap, ◌∙◌}
 use mathlib.Core.Bool.{Bool}
 use Prim.Native.Nat.{◌<◌}
 use native.Mathlib.Omega.{arith}
-use lib.ListN.{length-set}
 use Rattle.definitions.specs.General.{pick}
 use Rattle.arrivals.specs.Hold.{bounds_held, hold_none, hold_law}
 use Rattle.definitions.specs.World.{view}
@@ -13,7 +12,7 @@ use Rattle.arrivals.proofs.take_hold.Goals as goal
 pub returns-then-word-eq1-clause-words : goal.returns-then-word-eq1-clause-words
 returns-then-word-eq1-clause-words c =
     let a = c.args in
-    let hm : a.m < 64 = omega (arith, c.requires.2, c.requires.3.counts) in (c.requires.0, hold_none a.w.now a.m a.p hm c.requires.1 c.word.ensures c.if-word-eq1.true)
+    hold_none a.w.now a.m a.p (omega arith) c.requires.p_in c.word.ensures c.if-word-eq1.true
 
 pub returns-then-word-eq1-clause-place : goal.returns-then-word-eq1-clause-place
 returns-then-word-eq1-clause-place c =
@@ -23,26 +22,23 @@ returns-then-word-eq1-clause-place c =
 pub send-requires : goal.send-requires
 send-requires c =
     let a = c.args in
-    let hm : a.m < 64 = omega (arith, c.requires.2, c.requires.3.counts) in (
-      length-set a.w.now _ _ ∙ c.requires.0,
-      c.requires.1,
-      omega (arith, c.requires.2, held_count a.w.now a.p a.m c.requires.0 c.requires.1 hm),
-      c.answer_kind-k.ensures.1,
-      bounds_held a.w.now a.p a.m c.requires.0 c.requires.1 hm c.requires.3,
-      held_index a.w.now a.p a.m c.requires.0 c.requires.1 hm c.requires.3 c.requires.4,
-    )
+    let hm : a.m < 64 = omega arith in
+    record {
+      p_in = c.requires.p_in;
+      m_in = omega (arith, c.requires.m_in, held_count a.w.now a.p a.m c.told-w c.requires.p_in hm);
+      k_in = c.answer_kind-k.ensures.1;
+      bounds = bounds_held a.w.now a.p a.m c.told-w c.requires.p_in hm c.requires.bounds;
+      index = held_index a.w.now a.p a.m c.told-w c.requires.p_in hm c.requires.bounds c.requires.index;
+    }
 
 pub returns-clause-words : goal.returns-clause-words
 returns-clause-words c =
     let a = c.args in
-    let hm : a.m < 64 = omega (arith, c.requires.2, c.requires.3.counts) in (
-      c.send.ensures.0,
-      hold_law a.w.now _ a.m a.p c.requires.3 hm c.requires.1 c.word.ensures c.if-word-eq1.false
-          c.in_turn-in_turn.ensures c.answer_kind-k.ensures.0 c.send.ensures.1,
-    )
+    hold_law a.w.now _ a.m a.p c.requires.bounds (omega arith) c.requires.p_in c.word.ensures c.if-word-eq1.false
+    c.in_turn-in_turn.ensures c.answer_kind-k.ensures.0 c.send.ensures
 
 pub returns-clause-place : goal.returns-clause-place
 returns-clause-place c =
     let a = c.args in
-    hold_silent (view a.w.now) a.p a.m _ c.answer_kind-k.result c.requires.1
+    hold_silent (view a.w.now) a.p a.m _ c.answer_kind-k.result c.requires.p_in
     (c.answer_kind-k.ensures.0 ∙ ap (λ (y : Bool). pick y 2 1) c.in_turn-in_turn.ensures) (omega arith)

@@ -8,16 +8,19 @@ use Rattle.arrivals.proofs.touch.Goals.{After-set_mark}
 -- the letter is out, and its mark is set
 changed : (c : After-set_mark)
     → let a = c.args in
-    Changes a.w.now c.set_mark.new.w (λ s. marked_of s a.k a.m a.q a.p)
-changed c s e = c.set_mark.ensures.1 _ (c.take_out.ensures.1 s e)
+    Changes a.w.now c.set_mark.new.w (λ s. marked_of s a.letter.kind a.letter.message a.letter.from a.letter.to)
+changed c s e = c.set_mark.ensures _ (c.take_out.ensures s e)
 
 pub has_marks-requires : goal.has_marks-requires
-has_marks-requires c = let after_set_mark = (goal.at.has_marks-requires c).After-set_mark in
-    let a = c.args in (
-      c.set_mark.ensures.0,
-      c.requires.1,
-      omega (arith, c.requires.2, marked_count a.w.now c.set_mark.new.w a.k a.m a.q a.p c.requires.0 c.requires.3 (changed after_set_mark)),
-      marked_bounds a.w.now c.set_mark.new.w a.k a.m a.q a.p c.requires.0 c.requires.3 (changed after_set_mark),
-      marked_words a.w.now c.set_mark.new.w a.k a.m a.q a.p c.requires.0 c.requires.3 (changed after_set_mark)
-          c.requires.4,
-    )
+has_marks-requires c =
+    let a = c.args in
+    let l = a.letter in
+    let u = c.set_mark.new.w in
+    let h = c.requires.bounds in
+    let e = changed (goal.at.has_marks-requires c).After-set_mark in
+    record {
+      p_in = c.requires.to_in;
+      m_in = omega (arith, c.requires.message_in, marked_count a.w.now u l.kind l.message l.from l.to c.told-w h e);
+      bounds = marked_bounds a.w.now u l.kind l.message l.from l.to c.told-w h e;
+      index = marked_words a.w.now u l.kind l.message l.from l.to c.told-w h e c.requires.index;
+    }

@@ -5,22 +5,20 @@ use mathlib.Core.Bool.{not}
 use Prim.Native.Nat.{ℕ}
 use native.Mathlib.Omega.{arith}
 use lib.Dec.{eqb}
+use lib.ListN.{length}
 use Rattle.definitions.specs.General.{absent}
 use Rattle.base.specs.Search.{every_none, gathers, gathered}
 use Rattle.awaiting.proofs.lacks.Goals as goal
 
-pub loop-j-init : goal.loop-j-init
-loop-j-init c = (omega arith, every_none _)
+pub loop-x-init : goal.loop-x-init
+loop-x-init c = every_none _
 
-pub loop-j-preserved : goal.loop-j-preserved
-loop-j-preserved c =
-    let l = c.loop-j in
+pub loop-x-preserved : goal.loop-x-preserved
+loop-x-preserved c =
+    let l = c.loop-x in
     let m = c.args.m in
-    (omega arith, gathers _ l.j l.ok _ l.invariant.1 (ap (λ (x : ℕ). not (eqb x m)) c.word.ensures))
+    gathers _ l.x-index l.ok _ l.invariant (ap (λ (x : ℕ). not (eqb x m)) c.from.ensures)
 
 pub returns : goal.returns
 unfolding absent
-returns c =
-    let a = c.args in
-    let l = c.loop-j in
-    gathered _ l.j a.n l.invariant.1 (omega arith)
+returns c = let l = c.loop-x in gathered _ l.x-index (length c.args.log.now) l.invariant (omega arith)

@@ -2,14 +2,10 @@
 -- nothing.
 use mathlib.Core.Path.{◌≡◌}
 use mathlib.Core.Bool.{not}
-use Prim.Native.Nat.{◌+◌, ◌-◌, ◌≤◌}
 use lib.Dec.{eqb}
 use lib.ListN.{get_or}
 use Rattle.definitions.specs.General.{every}
 use Rattle.awaiting.proofs.lacks.Given as goal
 
-abbrev pub invariant-loop-j : goal.invariant-loop-j
-invariant-loop-j l = (l.j ≤ l.n) × (l.ok ≡ every l.j (λ i. not (eqb (get_or l.w (l.at + i) 0) l.m)))
-
-abbrev pub decreases-loop-j : goal.decreases-loop-j
-decreases-loop-j l = l.n - l.j
+abbrev pub invariant-loop-x : goal.invariant-loop-x
+invariant-loop-x l = l.ok ≡ every l.x-index (λ i. not (eqb (get_or l.log i 0) l.m))

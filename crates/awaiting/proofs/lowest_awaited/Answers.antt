@@ -14,12 +14,12 @@ use Rattle.awaiting.proofs.lowest_awaited.Goals as goal
 use Rattle.awaiting.proofs.lowest_awaited.Goals.{After-is_awaited, At-loop-x}
 
 -- the group exists, and there are at most 64 messages
-read : (c : At-loop-x) → (c.word-g.result < 8) × (c.word-count.result ≤ 64)
-    × (c.word-count.result ≡ view c.args.w.now count)
+read : (c : At-loop-x) → (c.word-g.result < 8) × (c.word-x-end.result ≤ 64)
+    × (c.word-x-end.result ≡ view c.args.w.now count)
 read c = (
-  omega (arith, c.word-g.ensures, c.requires.3.groups c.args.p c.requires.1),
-  omega (arith, c.word-count.ensures, c.requires.3.counts),
-  c.word-count.ensures,
+  omega (arith, c.word-g.ensures, c.requires.2.groups c.args.p c.requires.0),
+  omega (arith, c.word-x-end.ensures, c.requires.2.counts),
+  c.word-x-end.ensures,
 )
 
 -- the test of message x
@@ -36,30 +36,33 @@ tested c =
 
 pub loop-x-init : goal.loop-x-init
 unfolding lowest_awaited
-loop-x-init c = (omega arith, rw (sub-zero _))
+loop-x-init c = rw (sub-zero _)
 
 pub returns-then-is_awaited : goal.returns-then-is_awaited
 returns-then-is_awaited c =
     let v = view c.args.w.now in
-    sym (c.loop-x.invariant.1
-    ∙ first_hit (is_awaited v c.args.p c.args.q) (v count) c.loop-x.x
-    (omega (arith, read (goal.at.returns-then-is_awaited c).At-loop-x))
-    (sym (tested (goal.at.returns-then-is_awaited c).After-is_awaited) ∙ c.if-is_awaited.true))
+    let r = read (goal.at.returns-then-is_awaited c).At-loop-x in (
+      omega (arith, r),
+      sym (c.loop-x.invariant
+          ∙ first_hit (is_awaited v c.args.p c.args.q) (v count) c.loop-x.x
+          (omega (arith, r))
+          (sym (tested (goal.at.returns-then-is_awaited c).After-is_awaited) ∙ c.if-is_awaited.true)),
+    )
 
 pub loop-x-preserved : goal.loop-x-preserved
 loop-x-preserved c =
-    let v = view c.args.w.now in (
-      omega arith,
-      c.loop-x.invariant.1
-          ∙ first_skip (is_awaited v c.args.p c.args.q) (v count) c.loop-x.x
-          (omega (arith, read (goal.at.loop-x-preserved c).At-loop-x))
-          (sym (tested (goal.at.loop-x-preserved c).After-is_awaited) ∙ c.if-is_awaited.false),
-    )
+    let v = view c.args.w.now in
+    c.loop-x.invariant
+    ∙ first_skip (is_awaited v c.args.p c.args.q) (v count) c.loop-x.x
+    (omega (arith, read (goal.at.loop-x-preserved c).At-loop-x))
+    (sym (tested (goal.at.loop-x-preserved c).After-is_awaited) ∙ c.if-is_awaited.false)
 
 pub returns : goal.returns
 returns c =
     let v = view c.args.w.now in
-    c.word-count.ensures
-    ∙ sym (c.loop-x.invariant.1
-    ∙ first_end (is_awaited v c.args.p c.args.q) (v count) c.loop-x.x
-    (omega (arith, read (goal.at.returns c).At-loop-x)))
+    let r = read (goal.at.returns c).At-loop-x in
+    omega (
+      arith,
+      c.loop-x.invariant
+          ∙ first_end (is_awaited v c.args.p c.args.q) (v count) c.loop-x.x (omega (arith, r)),
+    )

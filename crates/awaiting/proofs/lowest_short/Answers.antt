@@ -15,12 +15,12 @@ use Rattle.awaiting.proofs.lowest_short.Goals as goal
 use Rattle.awaiting.proofs.lowest_short.Goals.{After-word-d, At-loop-q}
 
 -- the group exists, and there are at most 16 processes
-read : (c : At-loop-q) → (c.word-g.result < 8) × (c.word-n.result ≤ 16)
-    × (c.word-n.result ≡ view c.args.w.now size)
+read : (c : At-loop-q) → (c.word-g.result < 8) × (c.word-q-end.result ≤ 16)
+    × (c.word-q-end.result ≡ view c.args.w.now size)
 read c = (
-  omega (arith, c.word-g.ensures, c.requires.3.groups c.args.p c.requires.1),
-  omega (arith, c.word-n.ensures, c.requires.3.sizes),
-  c.word-n.ensures,
+  omega (arith, c.word-g.ensures, c.requires.2.groups c.args.p c.requires.0),
+  omega (arith, c.word-q-end.ensures, c.requires.2.sizes),
+  c.word-q-end.ensures,
 )
 
 -- the test of entry q
@@ -43,30 +43,33 @@ tested c =
 
 pub loop-q-init : goal.loop-q-init
 unfolding lowest_short
-loop-q-init c = (omega arith, rw (sub-zero _))
+loop-q-init c = rw (sub-zero _)
 
 pub returns-then-q-own : goal.returns-then-q-own
 returns-then-q-own c =
     let v = view c.args.w.now in
-    sym (c.loop-q.invariant.1
-    ∙ first_hit (λ r. not (fits v c.args.p c.args.m r)) (v size) c.loop-q.q
-    (omega (arith, read (goal.at.returns-then-q-own c).At-loop-q))
-    (sym (tested (goal.at.returns-then-q-own c).After-word-d) ∙ c.if-q-own.true))
+    let r = read (goal.at.returns-then-q-own c).At-loop-q in (
+      omega (arith, r),
+      sym (c.loop-q.invariant
+          ∙ first_hit (λ r. not (fits v c.args.p c.args.m r)) (v size) c.loop-q.q
+          (omega (arith, r))
+          (sym (tested (goal.at.returns-then-q-own c).After-word-d) ∙ c.if-q-own.true)),
+    )
 
 pub loop-q-preserved : goal.loop-q-preserved
 loop-q-preserved c =
-    let v = view c.args.w.now in (
-      omega arith,
-      c.loop-q.invariant.1
-          ∙ first_skip (λ r. not (fits v c.args.p c.args.m r)) (v size) c.loop-q.q
-          (omega (arith, read (goal.at.loop-q-preserved c).At-loop-q))
-          (sym (tested (goal.at.loop-q-preserved c).After-word-d) ∙ c.if-q-own.false),
-    )
+    let v = view c.args.w.now in
+    c.loop-q.invariant
+    ∙ first_skip (λ r. not (fits v c.args.p c.args.m r)) (v size) c.loop-q.q
+    (omega (arith, read (goal.at.loop-q-preserved c).At-loop-q))
+    (sym (tested (goal.at.loop-q-preserved c).After-word-d) ∙ c.if-q-own.false)
 
 pub returns : goal.returns
 returns c =
     let v = view c.args.w.now in
-    c.word-n.ensures
-    ∙ sym (c.loop-q.invariant.1
-    ∙ first_end (λ r. not (fits v c.args.p c.args.m r)) (v size) c.loop-q.q
-    (omega (arith, read (goal.at.returns c).At-loop-q)))
+    let r = read (goal.at.returns c).At-loop-q in
+    omega (
+      arith,
+      c.loop-q.invariant
+          ∙ first_end (λ r. not (fits v c.args.p c.args.m r)) (v size) c.loop-q.q (omega (arith, r)),
+    )

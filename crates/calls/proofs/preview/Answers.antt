@@ -1,47 +1,38 @@
 -- `calls::preview` meets its contract: 1, 2, else what the preview of a step of a sound world gives. Assumes nothing.
-use mathlib.Core.Path.{sym, ◌∙◌}
-use native.Mathlib.Omega.{arith}
+use Rattle.std.proofs.Common.{sym, ◌∙◌, arith}
+use Rattle.std.proofs.lemmas.Result.{err_from_is_err_and}
 use Rattle.definitions.specs.Answers.{refusal_number}
-use Rattle.answers.specs.Laws.{refusal_some, taken_zero, refused_number}
+use Rattle.answers.specs.Laws.{refusal_some}
 use Rattle.world.specs.Calls.{preview_judged, preview_unjudged}
-use Rattle.keeps.specs.Keeps.{taken_sound_words}
-use Rattle.reading.specs.Tested.{step_refused}
+use Rattle.reading.specs.Tested.{wrong_length, step_refused}
 use Rattle.previewing.specs.Previewed.{not_shown}
 use Rattle.calls.proofs.preview.Goals as goal
 
-pub returns-then-second-ne-WORLD-clause-answer : goal.returns-then-second-ne-WORLD-clause-answer
-returns-then-second-ne-WORLD-clause-answer c =
+pub returns-in_default : goal.returns-in_default
+returns-in_default c =
     let a = c.args in
-    (not_shown a.w.now a.bytes.now a.second.now 1 (λ z. omega arith)
-    (sym (preview_unjudged a.w.now a.bytes.now a.second.now c.if-second-ne-WORLD.true))).0
+    let e = not_shown a.w.now a.bytes.now a.second.now 1 (λ z. omega arith)
+    (sym (preview_unjudged a.w.now a.bytes.now a.second.now (λ z. c.in_default.ensures.cases z))) in
+    record { answer = e.0; words = e.1 }
 
-pub returns-then-second-ne-WORLD-clause-words : goal.returns-then-second-ne-WORLD-clause-words
-returns-then-second-ne-WORLD-clause-words c =
+pub returns-in_default-try_from : goal.returns-in_default-try_from
+returns-in_default-try_from c =
     let a = c.args in
-    (not_shown a.w.now a.bytes.now a.second.now 1 (λ z. omega arith)
-    (sym (preview_unjudged a.w.now a.bytes.now a.second.now c.if-second-ne-WORLD.true))).1
+    let s = c.in-Some.ensures.cases in
+    let e = not_shown a.w.now a.bytes.now a.second.now 1 (λ z. omega arith)
+    ((step_refused a.w.now a.bytes.now 1 (λ z. omega arith)
+    (sym (wrong_length a.w.now 0 (λ z. c.in_default-try_from.ensures.1 z)))).0
+    ∙ sym (preview_judged a.w.now a.bytes.now a.second.now s.long)) in
+    record { answer = e.0; words = s.same ∙ e.1 }
 
-pub preview-requires : goal.preview-requires
-preview-requires c =
+pub returns-in_err-indexed : goal.returns-in_err-indexed
+returns-in_err-indexed c =
     let a = c.args in
-    let z = taken_zero c.in-Taken.is c.indexed.ensures.answer in
-    let h = taken_sound_words a.w.now z in
-    (h.long, c.if-second-ne-WORLD.false, h.reads, c.indexed.ensures.index z)
-
-pub returns-in-Refused-clause-answer : goal.returns-in-Refused-clause-answer
-returns-in-Refused-clause-answer c =
-    let a = c.args in
-    let r = c.in-Refused.r in
-    (not_shown a.w.now a.bytes.now a.second.now (refusal_number r) (refusal_some r)
+    let r = c.in_err-indexed.field-0.0 in
+    let p = err_from_is_err_and c.from_residual.result c.from_residual.ensures.1 in
+    let s = c.in-Some.ensures.cases in
+    let e = not_shown a.w.now a.bytes.now a.second.now (refusal_number r) (refusal_some r)
     ((step_refused a.w.now a.bytes.now (refusal_number r) (refusal_some r)
-    (refused_number c.in-Refused.is c.indexed.ensures.answer)).0
-    ∙ sym (preview_judged a.w.now a.bytes.now a.second.now c.if-second-ne-WORLD.false))).0
-
-pub returns-in-Refused-clause-words : goal.returns-in-Refused-clause-words
-returns-in-Refused-clause-words c =
-    let a = c.args in
-    let r = c.in-Refused.r in
-    (not_shown a.w.now a.bytes.now a.second.now (refusal_number r) (refusal_some r)
-    ((step_refused a.w.now a.bytes.now (refusal_number r) (refusal_some r)
-    (refused_number c.in-Refused.is c.indexed.ensures.answer)).0
-    ∙ sym (preview_judged a.w.now a.bytes.now a.second.now c.if-second-ne-WORLD.false))).1
+    (rw c.in-Ok.ensures.1.same at c.in_err-indexed.ensures.answer)).0
+    ∙ sym (preview_judged a.w.now a.bytes.now a.second.now s.long)) in
+    record { answer = rw (p.1, p.2) e.0; words = s.same ∙ e.1 }

@@ -1,41 +1,39 @@
 -- `calls::settle_fair` meets its contract: 1, 2, else what settling a sound world gives. Assumes nothing.
-use mathlib.Core.Path.{◌∙◌}
+use Rattle.std.proofs.Common.{sym, ap, ◌∙◌, arith}
+use Rattle.std.proofs.lemmas.Result.{err_from_is_err_and}
+use Rattle.definitions.specs.General.{gives}
 use Rattle.definitions.specs.Settle.{by_turns}
 use Rattle.definitions.specs.Answers.{refusal_number}
-use Rattle.answers.specs.Laws.{refusal_some, taken_zero, refused_number}
-use Rattle.keeps.specs.Keeps.{taken_sound_words}
-use Rattle.reading.specs.Tested.{settle_refused}
+use Rattle.answers.specs.Laws.{refusal_some}
 use Rattle.queues.specs.Queues.{none_queued}
 use Rattle.world.specs.Calls.{settle_taken}
+use Rattle.reading.specs.Tested.{wrong_length, settle_refused}
 use Rattle.calls.proofs.settle_fair.Goals as goal
 
-pub returns-in-Refused-clause-answer : goal.returns-in-Refused-clause-answer
-returns-in-Refused-clause-answer c =
-    let a = c.args in
-    let r = c.in-Refused.r in
-    (settle_refused by_turns a.w.now a.budget (refusal_number r) (refusal_some r)
-    (refused_number c.in-Refused.is c.indexed.ensures.answer)).0
+pub returns-in_default : goal.returns-in_default
+returns-in_default c =
+    let e = settle_refused by_turns c.args.w.now c.args.budget 1 (λ z. omega arith)
+    (sym (wrong_length c.args.w.now 0 (λ z. c.in_default.ensures.cases z))) in
+    record { answer = e.0; words = e.1 }
 
-pub returns-in-Refused-clause-words : goal.returns-in-Refused-clause-words
-returns-in-Refused-clause-words c =
-    let a = c.args in
-    let r = c.in-Refused.r in
-    (settle_refused by_turns a.w.now a.budget (refusal_number r) (refusal_some r)
-    (refused_number c.in-Refused.is c.indexed.ensures.answer)).1
+pub returns-in_err-indexed : goal.returns-in_err-indexed
+returns-in_err-indexed c =
+    let r = c.in_err-indexed.field-0.0 in
+    let p = err_from_is_err_and c.from_residual.result c.from_residual.ensures.1 in
+    let same = c.in-Some.ensures.cases.same in
+    let e = settle_refused by_turns c.args.w.now c.args.budget (refusal_number r) (refusal_some r)
+    (rw same at c.in_err-indexed.ensures.answer) in
+    record { answer = rw (p.1, p.2) e.0; words = same ∙ e.1 }
 
-pub serve-requires : goal.serve-requires
-serve-requires c =
-    let z = taken_zero c.in_default.is c.indexed.ensures.answer in
-    (taken_sound_words _ z, c.indexed.ensures.index z, none_queued)
-
-pub returns-clause-answer : goal.returns-clause-answer
-returns-clause-answer c =
+pub returns : goal.returns
+returns c =
     let a = c.args in
-    let z = settle_taken by_turns a.w.now a.budget (taken_zero c.in_default.is c.indexed.ensures.answer) in
-    c.serve.ensures.answer ∙ z.0
+    let same = c.in-Some.ensures.cases.same in
+    let e = settle_taken by_turns a.w.now a.budget (sym (rw same at c.in_ok-indexed.ensures.answer)) in
+    record {
+      answer = ap gives (rw same at c.serve.ensures.answer) ∙ e.0;
+      words = (rw same at c.serve.ensures.words) ∙ e.1;
+    }
 
-pub returns-clause-words : goal.returns-clause-words
-returns-clause-words c =
-    let a = c.args in
-    let z = settle_taken by_turns a.w.now a.budget (taken_zero c.in_default.is c.indexed.ensures.answer) in
-    c.serve.ensures.words ∙ z.1
+pub serve-requires-clause-none : goal.serve-requires-clause-none
+serve-requires-clause-none c = none_queued

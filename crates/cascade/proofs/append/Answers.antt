@@ -17,44 +17,36 @@ use Rattle.cascade.proofs.append.Goals.{Start}
 
 -- the log has room
 room : (c : Start) → view c.args.w.now (fifo_length c.args.p) < view c.args.w.now count
-room c = new_room (view c.args.w.now) c.args.p c.args.m c.requires.5 c.requires.2 c.requires.6
+room c = new_room (view c.args.w.now) c.args.p c.args.m c.requires.logs c.requires.m_in c.requires.outside
 
 pub join-requires-2 : goal.join-requires-2
 join-requires-2 c =
-    omega (arith, c.word-n.ensures, room (goal.at.join-requires-2 c).Start, c.requires.3.counts)
+    omega (arith, c.word-n.ensures, room (goal.at.join-requires-2 c).Start, c.requires.bounds.counts)
 
-pub push-requires : goal.push-requires
-push-requires c =
-    (c.requires.0, c.requires.1, omega (arith, c.requires.2, c.requires.3.counts), omega (arith, room (goal.at.push-requires c).Start, c.requires.3.counts))
+pub push-requires-clause-room : goal.push-requires-clause-room
+push-requires-clause-room c = omega (arith, room (goal.at.push-requires-clause-room c).Start, c.requires.bounds.counts)
 
 pub returns-clause-words : goal.returns-clause-words
 unfolding appended
-returns-clause-words c =
-    let a = c.args in
-    let v = view a.w.now in
-    let hm : a.m < 64 = omega (arith, c.requires.2, c.requires.3.counts) in
-    let t = appended v a.p a.m in
-    let e : c.push.new.w ≡ encode t = c.push.ensures.1 v (sym (encode_view a.w.now c.requires.0)) in
-    let h = bounds_appended v a.p a.m hm (room (goal.at.returns-clause-words c).Start) c.requires.3 in
-    let y = a.x.now in (c.push.ensures.0, c.push.ensures.1)
+returns-clause-words c = c.push.ensures
 
 pub returns-clause-index : goal.returns-clause-index
 unfolding appended
 returns-clause-index c = let start = (goal.at.returns-clause-index c).Start in
     let a = c.args in
     let v = view a.w.now in
-    let hm : a.m < 64 = omega (arith, c.requires.2, c.requires.3.counts) in
+    let hm : a.m < 64 = omega (arith, c.requires.m_in, c.requires.bounds.counts) in
     let t = appended v a.p a.m in
-    let e : c.push.new.w ≡ encode t = c.push.ensures.1 v (sym (encode_view a.w.now c.requires.0)) in
-    let h = bounds_appended v a.p a.m hm (room start) c.requires.3 in
+    let e : c.push.new.w ≡ encode t = c.push.ensures v (sym (encode_view a.w.now c.told-w)) in
+    let h = bounds_appended v a.p a.m hm (room start) c.requires.bounds in
     let y = a.x.now in (
       bounds_words c.push.new.w t e h,
       index_words c.push.new.w t e h
-          (index_appended v a.p a.m y c.join.result c.join-2.result c.requires.3 c.requires.4 c.requires.1
-          (omega (arith, room start, c.requires.3.counts)) (c.requires.5.inside a.m c.requires.6) c.join.ensures
+          (index_appended v a.p a.m y c.join.result c.join-2.result c.requires.bounds c.requires.index c.requires.p_in
+          (omega (arith, room start, c.requires.bounds.counts)) (c.requires.logs.inside a.m c.requires.outside) c.join.ensures
           (c.join-2.ensures
           ∙ ap (λ (k : ℕ). with k c.word-n.result) (get_or-set_other y (80 + a.p) (96 + a.p) c.join.result 0 (λ q. omega (arith, q)))
           ∙ ap (with (get_or y (96 + a.p) 0)) c.word-n.ensures)),
-      logs_words c.push.new.w t e h a.p c.requires.1
-          (logs_appended v a.p a.m c.requires.5 c.requires.2 c.requires.6),
+      logs_words c.push.new.w t e h a.p c.requires.p_in
+          (logs_appended v a.p a.m c.requires.logs c.requires.m_in c.requires.outside),
     )

@@ -1,5 +1,4 @@
 -- `cascade::ready_set` meets its contract. The loop's invariant: the set has the messages passed that are ready. Assumes nothing.
-use Prim.Native.Nat.{◌-◌, ◌≤◌}
 use lib.Dec.{ltb}
 use Rattle.base.specs.Tests.{both}
 use Rattle.sets.specs.Lowest.{Has}
@@ -8,7 +7,4 @@ use Rattle.definitions.specs.World.{view}
 use Rattle.cascade.proofs.ready_set.Given as goal
 
 abbrev pub invariant-loop-m : goal.invariant-loop-m
-invariant-loop-m l = (l.m ≤ l.n) × Has l.set (λ k. both (ltb k l.m) (ready (view l.w) l.p k))
-
-abbrev pub decreases-loop-m : goal.decreases-loop-m
-decreases-loop-m l = l.n - l.m
+invariant-loop-m l = Has l.set (λ k. both (ltb k l.m) (ready (view l.w) l.p k))

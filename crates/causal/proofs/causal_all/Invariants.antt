@@ -2,15 +2,13 @@
 -- the definition's loop ends where the whole loop ends, and the index is that of the state with the set in hand stored.
 -- Assumes nothing.
 use mathlib.Core.Path.{◌≡◌}
-use lib.ListN.{length}
 use Rattle.definitions.specs.World.{State, encode, fifo_length}
 use Rattle.causal.specs.Open.{Going}
 use Rattle.causal.proofs.causal_all.Given as goal
 
 abbrev pub invariant-loop-places : goal.invariant-loop-places
 invariant-loop-places l =
-    (length l.w ≡ 20480) × (length l.x ≡ 112)
-    × ((s : State) → l.initial.w ≡ encode s → Going l.p (s (fifo_length l.p)) s l.w l.x l.places)
+    (s : State) → l.initial.w ≡ encode s → Going l.p (s (fifo_length l.p)) s l.w l.x l.places
 
 abbrev pub decreases-loop-places : goal.decreases-loop-places
 decreases-loop-places l = l.places

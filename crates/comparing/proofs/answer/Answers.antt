@@ -28,4 +28,4 @@ returns c =
     let a = c.args in
     is_tabulate 0 (length a.answers.now)
     (λ i. precedes_byte (view a.w.now) (first_of a.pairs.now i) (second_of a.pairs.now i)) l.answers
-    l.invariant.1 (λ i h. l.invariant.2 i (omega arith))
+    l.invariant.0 (λ i h. l.invariant.1 i (omega arith))

@@ -1,12 +1,13 @@
 -- `comparing::compare` meets its contract: the bytes are written where all words name messages. Assumes nothing.
-use mathlib.Core.Path.{◌≡◌, sym, ap, ◌∙◌}
+use mathlib.Core.Path.{◌≡◌, ◌∙◌}
 use Prim.Native.Nat.{ℕ}
+use Rattle.std.proofs.lemmas.Result.{err_from_is_err_and}
 use Rattle.std.specs.Prelude.{List}
 use lib.ListN.{length}
 use Rattle.definitions.specs.General.{needs, gives, reply}
 use Rattle.definitions.specs.World.{State, view}
 use Rattle.definitions.specs.Words.{all_named, different}
-use Rattle.definitions.specs.Answers.{refusal_number, amount_reply}
+use Rattle.definitions.specs.Answers.{refusal_number}
 use Rattle.base.specs.Refusals.{needs_none, reply_gives, reply_refuses}
 use Rattle.world.specs.Pairs.{two_each}
 use Rattle.comparing.specs.Pairs.{reply_as, bytes_lent, bytes_all}
@@ -22,33 +23,31 @@ answer-requires c =
     let v = view c.args.w.now in (
       c.requires.0,
       (needs_none 6 (all_named v c.args.pairs.now) 0
-          (given v c.args.pairs.now c.in-Is.n (ap amount_reply (sym c.in-Is.is) ∙ c.different.ensures))).0,
+          (given v c.args.pairs.now c.in_ok-n.n (c.in_ok-n.ensures))).0,
       two_each (length c.args.pairs.now) (length c.args.answers.now) c.requires.1,
     )
 
-pub returns-in-Is-clause-answer : goal.returns-in-Is-clause-answer
-returns-in-Is-clause-answer c =
+pub returns-clause-answer : goal.returns-clause-answer
+returns-clause-answer c =
     let a = c.args in
-    ap amount_reply (sym c.in-Is.is) ∙ c.different.ensures
+    c.in_ok-n.ensures
     ∙ reply_as a.w.now a.pairs.now a.answers.now c.requires.0 c.requires.1
 
-pub returns-in-Is-clause-bytes : goal.returns-in-Is-clause-bytes
-returns-in-Is-clause-bytes c =
+pub returns-clause-bytes : goal.returns-clause-bytes
+returns-clause-bytes c =
     let a = c.args in
     c.answer.ensures
     ∙ bytes_all a.w.now a.pairs.now a.answers.now c.requires.0 c.requires.1
-    (given (view a.w.now) a.pairs.now c.in-Is.n (ap amount_reply (sym c.in-Is.is) ∙ c.different.ensures))
+    (given (view a.w.now) a.pairs.now c.in_ok-n.n (c.in_ok-n.ensures))
 
-pub returns-in-Refused-clause-answer : goal.returns-in-Refused-clause-answer
-returns-in-Refused-clause-answer c =
+pub returns-in_err-n-clause-answer : goal.returns-in_err-n-clause-answer
+returns-in_err-n-clause-answer c =
     let a = c.args in
-    let e = ap amount_reply (sym c.in-Refused.is) ∙ c.different.ensures in
-    e ∙ reply_as a.w.now a.pairs.now a.answers.now c.requires.0 c.requires.1
+    let p = err_from_is_err_and c.from_residual.result c.from_residual.ensures.1 in
+    rw (p.1, p.2) (c.in_err-n.ensures ∙ reply_as a.w.now a.pairs.now a.answers.now c.requires.0 c.requires.1)
 
-pub returns-in-Refused-clause-bytes : goal.returns-in-Refused-clause-bytes
-returns-in-Refused-clause-bytes c =
+pub returns-in_err-n-clause-bytes : goal.returns-in_err-n-clause-bytes
+returns-in_err-n-clause-bytes c =
     let a = c.args in
-    let r = c.in-Refused.r in
-    let e = ap amount_reply (sym c.in-Refused.is) ∙ c.different.ensures in
     bytes_lent a.w.now a.pairs.now a.answers.now c.requires.0 c.requires.1
-    (reply_refuses (refusal_number r) _ _ e).1
+    (reply_refuses (refusal_number c.in_err-n.field-0.0) _ _ c.in_err-n.ensures).1

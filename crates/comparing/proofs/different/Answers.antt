@@ -26,11 +26,11 @@ all_passed c e =
     let pairs = c.args.pairs.now in
     ap (λ (k : ℕ). every k (λ j. ltb (get_or pairs j 0) (view c.args.w.now count))) (sym e)
     ∙ sym (ap (λ (n : ℕ). every c.loop-i.i (λ j. ltb (get_or pairs j 0) n)) c.word-count.ensures) ∙
-    c.loop-i.invariant.1
+    c.loop-i.invariant.0
 
 pub loop-i-init : goal.loop-i-init
 unfolding every
-loop-i-init c = (omega arith, refl, members_none _)
+loop-i-init c = (refl, members_none _)
 
 pub returns-then-count-m : goal.returns-then-count-m
 unfolding all_named
@@ -52,13 +52,12 @@ loop-i-preserved c =
     let pairs = c.args.pairs.now in
     let m = c.word-m.result in
     let i = c.loop-i.i in (
-      omega arith,
-      every_more i (λ j. ltb (get_or pairs j 0) c.word-count.result) c.loop-i.invariant.1
+      every_more i (λ j. ltb (get_or pairs j 0) c.word-count.result) c.loop-i.invariant.0
           (lt-ltb (get_or pairs i 0) c.word-count.result (omega (arith, c.word-m.ensures))),
       subst (λ (y : ℕ). Members y (i + 1) (λ j. get_or pairs j 0))
           (joined c.loop-i.set m (omega (arith, count_high (view c.args.w.now) c.requires.reads)) ∙ sym
           c.join-set.ensures)
-          (members_more c.loop-i.set i m (λ j. get_or pairs j 0) c.loop-i.invariant.2 c.word-m.ensures),
+          (members_more c.loop-i.set i m (λ j. get_or pairs j 0) c.loop-i.invariant.1 c.word-m.ensures),
     )
   where
     joined : (set m : ℕ) → m < 64 → pick (ltb m 64) (with set m) set ≡ with set m
@@ -70,4 +69,4 @@ returns c =
     let pairs = c.args.pairs.now in
     let named : all_named s pairs ≡ true = all_passed (goal.at.returns c).At-loop-i (omega arith) in
     rw named (ap gives (c.count.ensures ∙ members_different s pairs named c.loop-i.set (count_high s c.requires.reads)
-    (subst (λ (k : ℕ). Members c.loop-i.set k (λ j. get_or pairs j 0)) (omega arith) c.loop-i.invariant.2)))
+    (subst (λ (k : ℕ). Members c.loop-i.set k (λ j. get_or pairs j 0)) (omega arith) c.loop-i.invariant.1)))

@@ -2,17 +2,12 @@
 -- the set. Assumes nothing.
 use mathlib.Core.Path.{◌≡◌}
 use mathlib.Core.Bool.{true}
-use Prim.Native.Nat.{◌-◌, ◌≤◌}
 use lib.Dec.{ltb}
-use lib.ListN.{length, get_or}
+use lib.ListN.{get_or}
 use Rattle.definitions.specs.General.{every}
 use Rattle.sets.specs.Members.{Members}
 use Rattle.comparing.proofs.different.Given as goal
 
 abbrev pub invariant-loop-i : goal.invariant-loop-i
-invariant-loop-i l = (l.i ≤ length l.pairs)
-    × (every l.i (λ j. ltb (get_or l.pairs j 0) l.count) ≡ true)
+invariant-loop-i l = (every l.i (λ j. ltb (get_or l.pairs j 0) l.count) ≡ true)
     × Members l.set l.i (λ j. get_or l.pairs j 0)
-
-abbrev pub decreases-loop-i : goal.decreases-loop-i
-decreases-loop-i l = length l.pairs - l.i

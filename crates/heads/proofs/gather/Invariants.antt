@@ -1,12 +1,8 @@
 -- `heads::gather` meets its contract. The loop's invariant: the groups of the processes passed are gathered.
 -- Assumes nothing.
-use Prim.Native.Nat.{◌-◌, ◌≤◌}
 use Rattle.definitions.specs.World.{view}
 use Rattle.heads.specs.Groups.{GroupSet}
 use Rattle.heads.proofs.gather.Given as goal
 
 abbrev pub invariant-loop-p : goal.invariant-loop-p
-invariant-loop-p l = (l.p ≤ l.n) × GroupSet (view l.w) l.p l.set l.any
-
-abbrev pub decreases-loop-p : goal.decreases-loop-p
-decreases-loop-p l = l.n - l.p
+invariant-loop-p l = GroupSet (view l.w) l.p l.set l.any

@@ -9,7 +9,7 @@ use Rattle.heads.proofs.messages.Goals as goal
 
 pub loop-m-init : goal.loop-m-init
 unfolding heads_fine
-loop-m-init c = (omega arith, every_none _)
+loop-m-init c = every_none _
 
 pub loop-m-preserved : goal.loop-m-preserved
 unfolding heads_fine
@@ -17,5 +17,5 @@ loop-m-preserved c =
     let l = c.loop-m in
     let a = c.args in
     let t = head_law a.w.now a.n a.count a.groups l.m _ _ c.requires.sized c.requires.grouped
-    (omega arith) c.word.ensures refl (omega (arith, c.type_inv.w (6867 + l.m * 187 + 1))) in
-    (omega arith, gathers _ l.m l.ok _ l.invariant.1 (c.head-ok.ensures ∙ t))
+    (omega arith) c.word.ensures refl (c.fits-w (6867 + l.m * 187 + 1)) in
+    gathers _ l.m l.ok _ l.invariant (c.head-ok.ensures ∙ t)

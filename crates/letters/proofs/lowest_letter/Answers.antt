@@ -26,7 +26,7 @@ counted : (c : At-search)
     × (view c.args.w.now size ≤ 16)
     × (view c.args.w.now count ≤ 64)
 counted c =
-    (c.word-n.ensures, c.word-messages.ensures, c.requires.1, c.requires.2)
+    (c.word-n.ensures, c.word-messages.ensures, c.requires.processes, c.requires.messages)
 
 -- from the start of a level
 first_origin : (s : State) (m k : ℕ) → Origins s m k 0
@@ -36,7 +36,7 @@ first_origin s m k = rw (sub-zero (s size))
 pub search-init : goal.search-init
 search-init c =
     let s = view c.args.w.now in
-    let h = c.requires.4 in (
+    let h = c.requires.passed in (
       omega (arith, h.messages, c.word-messages.ensures),
       h.kinds,
       omega (arith, h.origins, c.word-n.ensures),

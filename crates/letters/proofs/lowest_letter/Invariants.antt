@@ -7,7 +7,7 @@ use lib.Dec.{ltb}
 use Rattle.definitions.specs.General.{first_from}
 use Rattle.definitions.specs.World.{State, size, count, view}
 use Rattle.definitions.specs.Settle.{receiver, origin, kind, movable, any}
-use Rattle.letters.specs.declared.Letter.TheVariants.{Nothing}
+use Rattle.std.specs.Prelude.{None}
 use Rattle.letters.proofs.lowest_letter.Given as goal
 
 -- from origin q on; from kind k on; from message m on
@@ -21,14 +21,14 @@ abbrev pub Messages : State → ℕ → Type 0
 Messages s m = first_from (s count) 0 (movable any s) ≡ first_from (s count - m) m (movable any s)
 
 abbrev pub invariant-loop-q : goal.invariant-loop-q
-invariant-loop-q l = (l.q ≤ l.n) × (l.found ≡ Nothing) × Origins (view l.w) l.m l.k l.q
+invariant-loop-q l = (l.q ≤ l.n) × (l.found ≡ None) × Origins (view l.w) l.m l.k l.q
 
 abbrev pub decreases-loop-q : goal.decreases-loop-q
 decreases-loop-q l = l.n - l.q
 
 abbrev pub invariant-loop-k : goal.invariant-loop-k
 invariant-loop-k l =
-    (l.k ≤ 3) × (l.q ≤ l.n) × (l.found ≡ Nothing) × Kinds (view l.w) l.m l.k × Origins (view l.w) l.m l.k l.q
+    (l.k ≤ 3) × (l.q ≤ l.n) × (l.found ≡ None) × Kinds (view l.w) l.m l.k × Origins (view l.w) l.m l.k l.q
     × ((l.k < 3) ⊎ (l.q ≡ 0))
 
 abbrev pub decreases-loop-k : goal.decreases-loop-k
@@ -36,7 +36,7 @@ decreases-loop-k l = 3 - l.k
 
 abbrev pub invariant-search : goal.invariant-search
 invariant-search l =
-    (l.m ≤ l.messages) × (l.k < 3) × (l.q ≤ l.n) × (l.found ≡ Nothing) × Messages (view l.w) l.m × Kinds
+    (l.m ≤ l.messages) × (l.k < 3) × (l.q ≤ l.n) × (l.found ≡ None) × Messages (view l.w) l.m × Kinds
     (view l.w) l.m l.k
     × Origins (view l.w) l.m l.k l.q
 

@@ -6,4 +6,4 @@ use Rattle.letters.proofs.receivers.Goals as goal
 pub returns : goal.returns
 returns c =
     let a = c.args in
-    waiting_up (view a.w.now) a.m a.k a.q c.letters.ensures c.requires.4
+    waiting_up (view a.w.now) a.m a.k a.q c.letters.ensures c.requires.ups

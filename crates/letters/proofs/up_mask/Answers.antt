@@ -1,7 +1,5 @@
 -- `letters::up_mask` meets its contract. The loop's invariant: the mask names the up processes passed. Assumes nothing.
-use mathlib.Core.Path.{refl, sym, ap, ◌∙◌}
-use Prim.Native.Nat.{ℕ}
-use native.Mathlib.Omega.{arith}
+use Rattle.std.proofs.Common.{ℕ, eqb, refl, sym, ap, ◌∙◌}
 use Rattle.definitions.specs.General.{pick, with, mask_of}
 use Rattle.definitions.specs.World.{view}
 use Rattle.definitions.specs.Steps.{is_up}
@@ -10,13 +8,12 @@ use Rattle.letters.proofs.up_mask.Goals as goal
 
 pub loop-q-init : goal.loop-q-init
 unfolding mask_of
-loop-q-init c = (omega arith, refl)
+loop-q-init c = refl
 
 pub loop-q-preserved : goal.loop-q-preserved
 loop-q-preserved c =
-    let w = c.args.w.now in (
-      omega arith,
-      c.with_up-mask.ensures
-          ∙ ap (λ (x : ℕ). pick (is_up (view w) c.loop-q.q) (with x c.loop-q.q) x) c.loop-q.invariant.1
-          ∙ sym (mask_more c.loop-q.q (is_up (view w))),
-    )
+    let l = c.loop-q in
+    c.join_if-mask.ensures
+    ∙ ap (λ (x : ℕ). pick (eqb x 1) (with l.mask l.q) l.mask) c.word.ensures
+    ∙ ap (λ (x : ℕ). pick (is_up (view c.args.w.now) l.q) (with x l.q) x) l.invariant
+    ∙ sym (mask_more l.q (is_up (view c.args.w.now)))

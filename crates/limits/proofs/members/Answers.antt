@@ -22,7 +22,7 @@ low c =
     )
 
 pub loop-p-init : goal.loop-p-init
-loop-p-init c = (omega arith, members_none _ _ refl (λ g h. get_or-replicate 8 g 0 0 h))
+loop-p-init c = members_none _ _ refl (λ g h. get_or-replicate 8 g 0 0 h)
 
 pub bounds-t-g : goal.bounds-t-g
 bounds-t-g c = omega (arith, low (goal.at.bounds-t-g c).After-word-g)
@@ -32,9 +32,7 @@ bounds-t-g-in-loop-p c = omega (arith, low (goal.at.bounds-t-g-in-loop-p c).Afte
 
 pub loop-p-preserved : goal.loop-p-preserved
 loop-p-preserved c =
-    let l = c.loop-p in (
-      omega arith,
-      members_more _ l.p c.word-g.result c.set.result l.t _ refl
-          (simp length-set l.invariant.1.long) c.word-g.ensures
-          (low (goal.at.loop-p-preserved c).After-word-g) c.set.ensures l.invariant.1,
-    )
+    let l = c.loop-p in
+    members_more _ l.p c.word-g.result c.join.result l.t _ refl
+    (simp length-set l.invariant.long) c.word-g.ensures
+    (low (goal.at.loop-p-preserved c).After-word-g) c.join.ensures l.invariant

@@ -2,9 +2,7 @@
 use mathlib.Core.Path.{ap, ◌∙◌}
 use Prim.Native.Nat.{ℕ}
 use native.Mathlib.Omega.{arith}
-use lib.ListN.{length}
 use Rattle.definitions.specs.World.{encode}
-use Rattle.world.specs.Layout.{length_encode}
 use Rattle.setup.specs.Groups.{group_in, group_small}
 use Rattle.making.specs.Begun.{begun, begin_process, begun_more}
 use Rattle.making.proofs.begin_all.Goals as goal
@@ -13,16 +11,10 @@ pub overflow_cast-group_of : goal.overflow_cast-group_of
 overflow_cast-group_of c =
     omega (arith, c.group_of.ensures, group_small c.args.bits c.loop-p.p)
 
-pub begin-requires : goal.begin-requires
-begin-requires c =
-    (ap length c.loop-p.invariant.1 ∙ length_encode _, omega arith, omega arith)
-
 pub loop-p-preserved : goal.loop-p-preserved
 loop-p-preserved c =
     let a = c.args in
-    let s = begun a.n (group_in a.bits) c.loop-p.p in (
-      omega arith,
-      c.begin.ensures.1 s c.loop-p.invariant.1
-          ∙ ap (λ (x : ℕ). encode (begin_process s c.loop-p.p a.n x)) c.group_of.ensures
-          ∙ begun_more a.n (group_in a.bits) c.loop-p.p,
-    )
+    let s = begun a.n (group_in a.bits) c.loop-p.p in
+    c.begin.ensures s c.loop-p.invariant
+    ∙ ap (λ (x : ℕ). encode (begin_process s c.loop-p.p a.n x)) c.group_of.ensures
+    ∙ begun_more a.n (group_in a.bits) c.loop-p.p

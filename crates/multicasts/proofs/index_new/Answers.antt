@@ -13,6 +13,6 @@ pub returns : goal.returns
 returns c =
     let a = c.args in
     ap₂ (λ (u v : ℕ). set (set a.x.now a.m u) (64 + a.p) v)
-    (c.addressees_of.ensures (view a.w.now) (sym (encode_view a.w.now c.requires.0)))
+    (c.from.ensures ∙ c.addressees_of.ensures (view a.w.now) (sym (encode_view a.w.now c.told-w)))
     (c.join.ensures ∙ ap (λ (y : ℕ). with y a.m)
-    (get_or-set_other a.x.now a.m (64 + a.p) c.addressees_of.result 0 (λ e. omega (arith, c.requires.3))))
+    (get_or-set_other a.x.now a.m (64 + a.p) c.from.result 0 (λ e. omega (arith, c.requires.m_in))))

@@ -8,10 +8,9 @@ use Rattle.multicasts.proofs.raise_all.Goals as goal
 
 pub loop-g-init : goal.loop-g-init
 loop-g-init c = (
-  omega arith,
   raised_start c.args.p c.args.groups c.args.r,
-  λ i. omega (arith, c.requires.1 i),
-  λ i. omega (arith, c.requires.2 i),
+  λ i. omega (arith, c.requires.counters i),
+  λ i. omega (arith, c.requires.sequences i),
 )
 
 pub loop-g-preserved : goal.loop-g-preserved
@@ -20,9 +19,8 @@ loop-g-preserved c =
     let a = c.args in
     let r = c.raise_one-q in
     let m = below_raised (bit a.groups l.g) (1000 + l.g) l.q a.p l.g r.ensures
-    l.invariant.2 l.invariant.3 in (
-      omega arith,
-      raised_more l.g a.p a.groups a.r l.invariant.1 r.ensures,
+    l.invariant.1 l.invariant.2 in (
+      raised_more l.g a.p a.groups a.r l.invariant.0 r.ensures,
       λ i. omega (arith, m.0 i),
       λ i. omega (arith, m.1 i),
     )

@@ -17,7 +17,7 @@ copy_state c =
 copy_words : (c : After-raise) → c.raise.new.w ≡ encode (copy_state c)
 unfolding copy_state
 copy_words c =
-    c.raise.ensures.1 (view c.args.w.now) (sym (encode_view c.args.w.now c.requires.0))
+    c.raise.ensures (view c.args.w.now) (sym (encode_view c.args.w.now (omega arith)))
 
 -- the words with the message entered
 enter_words : (c : After-enter)
@@ -25,57 +25,55 @@ enter_words : (c : After-enter)
     let a = c.args in
     c.enter.new.w ≡ encode (with_message (view a.w.now) a.p a.groups a.order c.word-m.result)
 unfolding copy_state
-enter_words c = c.enter.ensures.1 (copy_state (goal.at.After-enter c).After-raise) (copy_words (goal.at.After-enter c).After-raise)
+enter_words c = c.enter.ensures (copy_state (goal.at.After-enter c).After-raise) (copy_words (goal.at.After-enter c).After-raise)
 
-pub enter-requires : goal.enter-requires
+pub enter-requires-clause-room : goal.enter-requires-clause-room
 unfolding copy_state
-enter-requires c = let after_raise = (goal.at.enter-requires c).After-raise in
+enter-requires-clause-room c = let after_raise = (goal.at.enter-requires-clause-room c).After-raise in
     let a = c.args in
     let e : view c.raise.new.w count ≡ view a.w.now count =
     reads_cell c.raise.new.w count tt (copy_state after_raise) (copy_words after_raise)
     ∙ count_kept (view a.w.now) a.p a.groups c.word-m.result in
-    (c.raise.ensures.0, c.requires.1, omega (arith, e, c.requires.2))
+    omega (arith, e, c.requires.room)
 
-pub index_new-requires : goal.index_new-requires
-index_new-requires c =
-    let a = c.args in (
-      c.enter.ensures.0,
-      c.requires.5.long,
-      c.requires.1,
-      omega (arith, c.word-m.ensures, c.requires.2),
-      entered_bounds a.w.now c.enter.new.w a.x.now _ a.p a.groups a.order c.word-m.result c.requires.3 c.requires.5
-          c.requires.1 c.requires.2 c.word-m.ensures (enter_words (goal.at.index_new-requires c).After-enter) refl,
-    )
+pub index_new-requires-clause-m_in : goal.index_new-requires-clause-m_in
+index_new-requires-clause-m_in c = omega (arith, c.word-m.ensures, c.requires.room)
+
+pub index_new-requires-clause-bounds : goal.index_new-requires-clause-bounds
+index_new-requires-clause-bounds c =
+    let a = c.args in
+    entered_bounds a.w.now c.enter.new.w a.x.now _ a.p a.groups a.order c.word-m.result c.requires.bounds c.requires.index
+    c.requires.p_in c.requires.room c.word-m.ensures (enter_words (goal.at.index_new-requires-clause-bounds c).After-enter) refl
 
 pub send-requires : goal.send-requires
 send-requires c = let after_enter = (goal.at.send-requires c).After-enter in
     let a = c.args in
     let u = c.enter.new.w in
-    let y = c.index_new.new.x in (
-      c.enter.ensures.0,
-      c.requires.1,
-      omega (
+    let y = c.index_new.new.x in
+    record {
+      p_in = c.requires.p_in;
+      m_in = omega (
         arith,
-        entered_count a.w.now u a.x.now y a.p a.groups a.order c.word-m.result c.requires.3 c.requires.5
-            c.requires.1 c.requires.2 c.word-m.ensures (enter_words after_enter) c.index_new.ensures,
-      ),
-      omega arith,
-      entered_bounds a.w.now u a.x.now y a.p a.groups a.order c.word-m.result c.requires.3 c.requires.5
-          c.requires.1 c.requires.2 c.word-m.ensures (enter_words after_enter) c.index_new.ensures,
-      entered_index a.w.now u a.x.now y a.p a.groups a.order c.word-m.result c.requires.3 c.requires.5
-          c.requires.1 c.requires.2 c.word-m.ensures (enter_words after_enter) c.index_new.ensures,
-    )
+        entered_count a.w.now u a.x.now y a.p a.groups a.order c.word-m.result c.requires.bounds c.requires.index
+            c.requires.p_in c.requires.room c.word-m.ensures (enter_words after_enter) c.index_new.ensures,
+      );
+      k_in = omega arith;
+      bounds = entered_bounds a.w.now u a.x.now y a.p a.groups a.order c.word-m.result c.requires.bounds c.requires.index
+          c.requires.p_in c.requires.room c.word-m.ensures (enter_words after_enter) c.index_new.ensures;
+      index = entered_index a.w.now u a.x.now y a.p a.groups a.order c.word-m.result c.requires.bounds c.requires.index
+          c.requires.p_in c.requires.room c.word-m.ensures (enter_words after_enter) c.index_new.ensures;
+    }
 
 pub returns-clause-words : goal.returns-clause-words
 returns-clause-words c =
     let a = c.args in
-    multicast_law a.w.now _ _ _ a.p a.groups a.order c.requires.0 c.word-m.ensures c.raise.ensures.1 c.enter.ensures.1
-    c.send.ensures.1
+    multicast_law a.w.now _ _ _ a.p a.groups a.order c.told-w c.word-m.ensures c.raise.ensures c.enter.ensures
+    c.send.ensures
 
 pub returns-clause-index : goal.returns-clause-index
 returns-clause-index c =
     let a = c.args in
-    let e = multicast_law a.w.now c.raise.new.w c.enter.new.w c.send.new.w a.p a.groups a.order c.requires.0
-    c.word-m.ensures c.raise.ensures.1 c.enter.ensures.1 c.send.ensures.1 in
+    let e = multicast_law a.w.now c.raise.new.w c.enter.new.w c.send.new.w a.p a.groups a.order c.told-w
+    c.word-m.ensures c.raise.ensures c.enter.ensures c.send.ensures in
     sent_index a.w.now c.enter.new.w a.x.now c.index_new.new.x a.p a.groups a.order c.word-m.result
-    c.requires.3 c.requires.5 c.requires.1 c.requires.2 c.word-m.ensures (enter_words (goal.at.returns-clause-index c).After-enter) c.index_new.ensures e
+    c.requires.bounds c.requires.index c.requires.p_in c.requires.room c.word-m.ensures (enter_words (goal.at.returns-clause-index c).After-enter) c.index_new.ensures e

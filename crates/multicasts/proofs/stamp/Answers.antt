@@ -3,7 +3,6 @@ use mathlib.Core.Path.{◌≡◌, ap, ◌∙◌}
 use mathlib.Core.List.{List}
 use Prim.Native.Nat.{ℕ, ◌+◌, ◌*◌}
 use lib.ListN.{length}
-use native.Mathlib.Omega.{arith}
 use Rattle.base.specs.Tabulate.{splice}
 use Rattle.multicasts.specs.Multicast.{stamps_law}
 use borrow.Author.Rules.{rules}
@@ -17,9 +16,6 @@ long c = (search rules, search rules)
 pub returns : goal.returns
 returns c =
     let a = c.args in
-    let l = long (goal.at.returns c).Start in (
-      omega (arith, c.put-2.auto.w, c.put.auto.w, c.requires.0),
-      stamps_law a.w.now a.m a.r c.requires.1 l.0 l.1
-          (c.put-2.ensures ∙ ap (λ (x : List ℕ). splice x (6867 + a.m * 187 + 130) a.r.sequences)
-          c.put.ensures),
-    )
+    let l = long (goal.at.returns c).Start in
+    stamps_law a.w.now a.m a.r c.requires l.0 l.1
+    (c.put-2.ensures ∙ ap (λ (x : List ℕ). splice x (6867 + a.m * 187 + 130) a.r.sequences) c.put.ensures)

@@ -10,5 +10,5 @@ pub returns : goal.returns
 returns c =
     let p = c.args in
     let rest = drop (length p.s.now) p.part.now in
-    filled_by p.part.now p.s.now (c.copy.new.dst ++ rest) c.clear.new.part (length p.s.now) c.requires refl
-    (ap (λ (x : List ℕ). x ++ rest) (c.copy.ensures ∙ sym (take-length p.s.now))) c.clear.ensures
+    filled_by p.part.now p.s.now (c.copy.new.dst ++ rest) c.fill.new.self (length p.s.now) c.requires refl
+    (ap (λ (x : List ℕ). x ++ rest) (c.copy.ensures ∙ sym (take-length p.s.now))) (c.fill.ensures.after (λ y e. e))

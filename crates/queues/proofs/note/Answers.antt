@@ -14,26 +14,24 @@ use Rattle.queues.proofs.note.Goals.{After-lowest-p}
 -- the receiver, one of those left
 low : (c : After-lowest-p) → c.lowest-p.result < 16
 low c =
-    omega (arith, c.lowest-p.ensures, lowest_low 16 c.loop-left.left c.loop-left.invariant.1 c.loop-left-test.true)
+    omega (arith, c.lowest-p.ensures, lowest_low 16 c.loop-left.left c.loop-left.invariant.fits c.loop-left-test.true)
 
 member : (c : After-lowest-p) → bit c.loop-left.left c.lowest-p.result ≡ true
 member c =
     let left = c.loop-left.left in
     ap (bit left) c.lowest-p.ensures ∙ (first_law 16 0 (bit left)).hit (omega (arith, low c, c.lowest-p.ensures))
 
-pub clear-left-requires : goal.clear-left-requires
-clear-left-requires c = omega (arith, low (goal.at.clear-left-requires c).After-lowest-p)
+pub drop-left-requires : goal.drop-left-requires
+drop-left-requires c = omega (arith, low (goal.at.drop-left-requires c).After-lowest-p)
 
 pub join-requires : goal.join-requires
-join-requires c =
-    let b = c.requires in
-    (c.loop-left.invariant.0, b.1, omega (arith, b.2), low (goal.at.join-requires c).After-lowest-p)
+join-requires c = (c.requires.0, c.requires.1, low (goal.at.join-requires c).After-lowest-p)
 
 pub loop-left-smaller : goal.loop-left-smaller
 loop-left-smaller c =
     omega (
       arith,
-      c.clear-left.ensures,
+      c.drop-left.ensures,
       without_less _ _
           (member (goal.at.loop-left-smaller c).After-lowest-p) c.loop-left-test.true,
     )
@@ -42,32 +40,22 @@ pub loop-left-preserved : goal.loop-left-preserved
 loop-left-preserved c =
     let after_lowest_p = (goal.at.loop-left-preserved c).After-lowest-p in
     let a = c.args in
-    let z = c.join.ensures in (
-      z.0,
-      omega (
-        arith,
-        c.loop-left.invariant.1,
-        c.clear-left.ensures,
-        without_less _ _
-            (member after_lowest_p) c.loop-left-test.true,
-      ),
-      λ f q.
-          let (g, h, e) = c.loop-left.invariant.2 f q in (
+    record {
+      fits = omega arith;
+      letters = λ f q.
+          let (g, h, e) = c.loop-left.invariant.letters f q in (
             joined g a.m a.place c.lowest-p.result,
-            z.1 g h,
+            c.join.ensures g h,
             λ x j r.
-                ap (λ (n : ℕ). noted (joined g a.m a.place c.lowest-p.result) a.m a.place n x j r)
-                c.clear-left.ensures
+                ap (λ (n : ℕ). noted (joined g a.m a.place c.lowest-p.result) a.m a.place n x j r) c.drop-left.ensures
                 ∙ noted_one g a.m a.place c.lowest-p.result c.loop-left.left x j r (member after_lowest_p) ∙ e x j r,
-          ),
-    )
+          );
+    }
 
 pub returns : goal.returns
 returns c =
-    let a = c.args in (
-      c.loop-left.invariant.0,
-      λ f q.
-          let (g, h, e) = c.loop-left.invariant.2 f q in
-          queues_same h (λ x j r _ _ _. sym (noted_none g a.m a.place x j r)
-          ∙ ap (λ (n : ℕ). noted g a.m a.place n x j r) (sym c.loop-left-test.false) ∙ e x j r),
-    )
+    let a = c.args in
+    λ f q.
+    let (g, h, e) = c.loop-left.invariant.letters f q in
+    queues_same h (λ x j r _ _ _. sym (noted_none g a.m a.place x j r)
+    ∙ ap (λ (n : ℕ). noted g a.m a.place n x j r) (sym c.loop-left-test.false) ∙ e x j r)

@@ -2,20 +2,18 @@
 -- Assumes nothing.
 use mathlib.Core.Path.{refl}
 use native.Mathlib.Omega.{arith}
-use Rattle.ranges.specs.Ranges.{zeros_at}
+use lib.ListN.{length}
+use Rattle.ranges.specs.Ranges.{all_zero}
 use Rattle.base.specs.Search.{every_none, gathered}
 use Rattle.ranges.specs.Laws.{gathers_or}
 use Rattle.ranges.proofs.zeros.Goals as goal
 
-pub loop-i-init : goal.loop-i-init
-loop-i-init c = (omega arith, every_none _)
+pub loop-x-init : goal.loop-x-init
+loop-x-init c = every_none _
 
-pub loop-i-preserved : goal.loop-i-preserved
-loop-i-preserved c =
-    let l = c.loop-i in
-    (omega arith, gathers_or _ l.i l.any _ l.invariant.1 refl)
+pub loop-x-preserved : goal.loop-x-preserved
+loop-x-preserved c = let l = c.loop-x in gathers_or _ l.x-index l.any _ l.invariant refl
 
 pub returns : goal.returns
-unfolding zeros_at
-returns c = let l = c.loop-i in gathered _ l.i c.args.n l.invariant.1
-    (omega arith)
+unfolding all_zero
+returns c = let l = c.loop-x in gathered _ l.x-index (length c.args.part.now) l.invariant (omega arith)

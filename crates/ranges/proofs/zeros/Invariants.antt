@@ -1,14 +1,10 @@
 -- `ranges::zeros` meets its contract. The loop's invariant: nothing is gathered exactly if the words passed are zero.
 -- Assumes nothing.
 use mathlib.Core.Path.{◌≡◌}
-use Prim.Native.Nat.{◌+◌, ◌-◌, ◌≤◌}
 use lib.Dec.{eqb}
 use lib.ListN.{get_or}
 use Rattle.definitions.specs.General.{every}
 use Rattle.ranges.proofs.zeros.Given as goal
 
-abbrev pub invariant-loop-i : goal.invariant-loop-i
-invariant-loop-i l = (l.i ≤ l.n) × (eqb l.any 0 ≡ every l.i (λ j. eqb (get_or l.w (l.a + j) 0) 0))
-
-abbrev pub decreases-loop-i : goal.decreases-loop-i
-decreases-loop-i l = l.n - l.i
+abbrev pub invariant-loop-x : goal.invariant-loop-x
+invariant-loop-x l = eqb l.any 0 ≡ every l.x-index (λ j. eqb (get_or l.part j 0) 0)

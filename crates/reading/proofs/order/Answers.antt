@@ -1,41 +1,30 @@
 -- `reading::order` meets its contract: 1, 2, then 7, else the number. Assumes nothing.
-use mathlib.Core.Path.{◌≡◌, refl}
-use Prim.Native.Nat.{◌<◌}
-use native.Mathlib.Omega.{arith}
-use lib.ListN.{length}
-use Rattle.definitions.specs.World.{count, addr, view}
+use Rattle.std.proofs.Common.{ℕ, List, get_or, sym, ap, arith}
+use Rattle.std.proofs.lemmas.Result.{err_from_is_err_and}
+use Rattle.definitions.specs.World.{count, addr, view, order}
 use Rattle.definitions.specs.Words.{order_refusal, order_reply}
 use Rattle.definitions.specs.Answers.{refusal_number}
 use Rattle.base.specs.Refusals.{refused_reply}
-use Rattle.answers.specs.Laws.{refusal_some, taken_zero, refused_number}
+use Rattle.answers.specs.Laws.{refusal_some}
 use Rattle.world.specs.SoundLaws.{count_high}
-use Rattle.reading.specs.Tested.{present_refusal, present, not_refused}
+use Rattle.reading.specs.Tested.{present, not_refused}
 use Rattle.reading.proofs.order.Goals as goal
-use Rattle.reading.proofs.order.Goals.{In_default}
 
--- the message is there
-taken : (c : In_default) → let a = c.args in
-    present_refusal a.w.now (addr count) a.m 7 ≡ 0
-taken c = taken_zero c.in_default.is c.present.ensures
-
--- so it is one of 64
-room : (c : In_default) → let a = c.args in
-    (length a.w.now ≡ 20480) × (a.m < 64)
-room c =
-    let a = c.args in
-    let s = present a.w.now (addr count) a.m 6 (taken c) in
-    (s.0.long, omega (arith, s.1, count_high (view a.w.now) s.0.reads))
-
-pub returns-in-Refused : goal.returns-in-Refused
+pub returns-in_err-words : goal.returns-in_err-words
 unfolding order_reply order_refusal
-returns-in-Refused c =
-    let r = c.in-Refused.r in
-    refused_reply (refusal_number r) _ _ (refusal_some r)
-    (refused_number c.in-Refused.is c.present.ensures)
+returns-in_err-words c =
+    let r = c.in_err-words.field-0.0 in
+    let p = err_from_is_err_and c.from_residual.result c.from_residual.ensures.1 in
+    rw (p.1, p.2) (refused_reply (refusal_number r) _ _ (refusal_some r) c.in_err-words.ensures.answer)
 
-pub bounds-w-m : goal.bounds-w-m
-bounds-w-m c = omega (arith, room (goal.at.bounds-w-m c).In_default)
+pub bounds-words-m : goal.bounds-words-m
+bounds-words-m c =
+    let a = c.args in
+    let t = present a.w.now (addr count) a.m 6 (sym c.in_ok-words.ensures.answer) in
+    omega (arith, t.1, count_high (view a.w.now) t.0.reads)
 
 pub returns : goal.returns
 unfolding order_reply order_refusal
-returns c = not_refused (taken (goal.at.returns c).In_default) refl
+returns c =
+    not_refused (sym c.in_ok-words.ensures.answer)
+    (ap (λ (u : List ℕ). get_or u (addr (order c.args.m)) 0) c.in_ok-words.ensures.words)

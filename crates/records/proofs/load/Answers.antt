@@ -3,6 +3,4 @@ use Rattle.records.specs.Record.{load_law}
 use Rattle.records.proofs.load.Goals as goal
 
 pub returns : goal.returns
-returns c =
-    let a = c in
-    load_law a.args.w.now a.args.p a.requires.1 cc
+returns c = load_law c.args.w.now c.args.p c.requires cc

@@ -9,7 +9,7 @@ use Rattle.refusals.specs.Refused.{named_well}
 use Rattle.refusals.proofs.are_groups.Goals as goal
 
 pub loop-g-init : goal.loop-g-init
-loop-g-init c = (omega arith, every_intro 0 _ (λ i h. absurd (omega arith)))
+loop-g-init c = every_intro 0 _ (λ i h. absurd (omega arith))
 
 pub returns-then-not-is_named_well : goal.returns-then-not-is_named_well
 unfolding only
@@ -24,15 +24,12 @@ pub loop-g-preserved : goal.loop-g-preserved
 loop-g-preserved c =
     let r = c.is_named_well in
     let l = c.loop-g in
-    let a = c.args in (
-      omega arith,
-      every_more l.g (named_well (view a.w.now) a.groups) l.invariant.1
-          (sym r.ensures ∙ c.if-not-is_named_well.false),
-    )
+    let a = c.args in
+    every_more l.g (named_well (view a.w.now) a.groups) l.invariant (sym r.ensures ∙ c.if-not-is_named_well.false)
 
 pub returns : goal.returns
 unfolding only
 returns c =
     let l = c.loop-g in
     let e : l.g ≡ 8 = omega arith in
-    sym (rw e at l.invariant.1)
+    sym (rw e at l.invariant)

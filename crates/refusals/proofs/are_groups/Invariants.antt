@@ -2,14 +2,10 @@
 -- exist. Assumes nothing.
 use mathlib.Core.Path.{◌≡◌}
 use mathlib.Core.Bool.{true}
-use Prim.Native.Nat.{◌-◌, ◌≤◌}
 use Rattle.definitions.specs.General.{every}
 use Rattle.definitions.specs.World.{view}
 use Rattle.refusals.specs.Refused.{named_well}
 use Rattle.refusals.proofs.are_groups.Given as goal
 
 abbrev pub invariant-loop-g : goal.invariant-loop-g
-invariant-loop-g l = (l.g ≤ 8) × (every l.g (named_well (view l.w) l.groups) ≡ true)
-
-abbrev pub decreases-loop-g : goal.decreases-loop-g
-decreases-loop-g l = 8 - l.g
+invariant-loop-g l = every l.g (named_well (view l.w) l.groups) ≡ true

@@ -13,7 +13,7 @@ use Rattle.base.specs.Search.{every_intro, every_more, some_i}
 use Rattle.refusals.proofs.is_group.Goals as goal
 
 pub loop-p-init : goal.loop-p-init
-loop-p-init c = (omega arith, every_intro 0 _ (λ i h. absurd (omega arith)))
+loop-p-init c = every_intro 0 _ (λ i h. absurd (omega arith))
 
 pub returns-then-word-g : goal.returns-then-word-g
 unfolding has_group
@@ -27,11 +27,9 @@ returns-then-word-g c =
 pub loop-p-preserved : goal.loop-p-preserved
 loop-p-preserved c =
     let l = c.loop-p in
-    let a = c.args in (
-      omega arith,
-      every_more l.p (λ i. not (eqb (view a.w.now (group i)) a.g)) l.invariant.1
-          (is_other _ a.g (λ z. c.if-word-g.false (c.word.ensures ∙ z))),
-    )
+    let a = c.args in
+    every_more l.p (λ i. not (eqb (view a.w.now (group i)) a.g)) l.invariant
+    (is_other _ a.g (λ z. c.if-word-g.false (c.word.ensures ∙ z)))
 
 pub returns : goal.returns
 unfolding has_group some
@@ -40,4 +38,4 @@ returns c =
     let a = c.args in
     let e : l.p ≡ view a.w.now size = omega (arith, c.word-n.ensures) in
     sym (ap not (ap (λ (k : ℕ). every k (λ i. not (eqb (view a.w.now (group i)) a.g))) (sym e)
-    ∙ l.invariant.1))
+    ∙ l.invariant))

@@ -2,14 +2,10 @@
 -- nothing.
 use mathlib.Core.Path.{◌≡◌}
 use mathlib.Core.Bool.{true, not}
-use Prim.Native.Nat.{◌-◌, ◌≤◌}
 use lib.Dec.{eqb}
 use Rattle.definitions.specs.General.{every}
 use Rattle.definitions.specs.World.{group, view}
 use Rattle.refusals.proofs.is_group.Given as goal
 
 abbrev pub invariant-loop-p : goal.invariant-loop-p
-invariant-loop-p l = (l.p ≤ l.n) × (every l.p (λ i. not (eqb (view l.w (group i)) l.g)) ≡ true)
-
-abbrev pub decreases-loop-p : goal.decreases-loop-p
-decreases-loop-p l = l.n - l.p
+invariant-loop-p l = every l.p (λ i. not (eqb (view l.w (group i)) l.g)) ≡ true

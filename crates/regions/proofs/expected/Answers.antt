@@ -7,6 +7,6 @@ pub returns-then-q-n : goal.returns-then-q-n
 unfolding next_of
 returns-then-q-n c = rw (lt-ltb _ _ c.if-q-n.true)
 
-pub returns : goal.returns
+pub returns-else-q-n : goal.returns-else-q-n
 unfolding next_of
-returns c = rw (le-ltb _ _ c.if-q-n.false)
+returns-else-q-n c = rw (le-ltb _ _ c.if-q-n.false)

@@ -3,10 +3,10 @@ use mathlib.Core.Path.{sym, ◌∙◌}
 use Rattle.regions.specs.Letters.{letter_ok}
 use Rattle.regions.proofs.letter.Goals as goal
 
-pub returns-then-test : goal.returns-then-test
+pub returns-then-has : goal.returns-then-has
 unfolding letter_ok
-returns-then-test c = rw (sym c.test.ensures ∙ c.if-test.true)
+returns-then-has c = rw (sym c.has.ensures ∙ c.if-has.true)
 
-pub returns : goal.returns
+pub returns-else-has : goal.returns-else-has
 unfolding letter_ok
-returns c = rw (sym c.test.ensures ∙ c.if-test.false)
+returns-else-has c = rw (sym c.has.ensures ∙ c.if-has.false)

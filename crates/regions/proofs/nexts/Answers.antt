@@ -8,13 +8,13 @@ use Rattle.regions.specs.Nexts.{nexts_at}
 use Rattle.regions.proofs.nexts.Goals as goal
 
 pub loop-q-init : goal.loop-q-init
-loop-q-init c = (omega arith, every_none _)
+loop-q-init c = every_none _
 
 pub loop-q-preserved : goal.loop-q-preserved
 loop-q-preserved c =
     let l = c.loop-q in
-    (omega arith, gathers _ l.q l.ok _ l.invariant.1 (ap (eqb _) c.expected.ensures))
+    gathers _ l.q l.ok _ l.invariant (ap (eqb _) c.expected.ensures)
 
 pub returns : goal.returns
 unfolding nexts_at
-returns c = let l = c.loop-q in gathered _ l.q 16 l.invariant.1 (omega arith)
+returns c = let l = c.loop-q in gathered _ l.q 16 l.invariant (omega arith)

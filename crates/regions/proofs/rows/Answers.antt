@@ -8,16 +8,16 @@ use Rattle.regions.specs.Rows.{rows_law}
 use Rattle.regions.proofs.rows.Goals as goal
 
 pub loop-m-init : goal.loop-m-init
-loop-m-init c = (omega arith, every_none _)
+loop-m-init c = every_none _
 
 pub loop-m-preserved : goal.loop-m-preserved
 loop-m-preserved c =
     let l = c.loop-m in
-    (omega arith, gathers_or _ l.m l.any _ l.invariant.1 c.row-any.ensures)
+    gathers_or _ l.m l.any _ l.invariant c.row-any.ensures
 
 pub returns : goal.returns
 returns c =
     let l = c.loop-m in
-    gathered _ l.m 64 l.invariant.1 (omega arith)
+    gathered _ l.m 64 l.invariant (omega arith)
     ∙ rows_law c.args.w.now c.args.addressees.now c.args.p c.requires.block c.requires.addressees
-    (λ i. omega (arith, c.type_inv.w i))
+    (λ i. omega (arith, c.fits-w i))

@@ -1,7 +1,7 @@
 -- `regions::rows` meets its contract. The loop's invariant: nothing is gathered exactly if the flags and
 -- marks passed may be. Assumes nothing.
 use mathlib.Core.Path.{◌≡◌}
-use Prim.Native.Nat.{◌+◌, ◌-◌, ◌*◌, ◌≤◌}
+use Prim.Native.Nat.{◌+◌, ◌*◌}
 use lib.Dec.{eqb}
 use lib.ListN.{get_or}
 use Rattle.definitions.specs.General.{every}
@@ -10,9 +10,6 @@ use Rattle.regions.proofs.rows.Given as goal
 
 abbrev pub invariant-loop-m : goal.invariant-loop-m
 invariant-loop-m l =
-    (l.m ≤ 64) × (eqb l.any 0 ≡ every l.m
+    eqb l.any 0 ≡ every l.m
     (λ x. row_ok (get_or l.w (3 + l.p * 429 + 173 + x) 0) (get_or l.w (3 + l.p * 429 + 237 + x) 0) (get_or l.addressees x 0)
-    l.p))
-
-abbrev pub decreases-loop-m : goal.decreases-loop-m
-decreases-loop-m l = 64 - l.m
+    l.p)

@@ -7,19 +7,14 @@ use Rattle.index.specs.Index.{to_low}
 use Rattle.sends.specs.Sends.{sent_law, addressees_law}
 use Rattle.sends.proofs.send.Goals as goal
 
-pub to-a-requires : goal.to-a-requires
-to-a-requires c =
-    let a = c.args in (
-      omega (arith, c.requires.5.long, c.requires.2, c.requires.4.counts),
-      to_low (view a.w.now) a.x.now a.m c.requires.4 c.requires.5 c.requires.2,
-    )
+pub to-a-requires-clause-low : goal.to-a-requires-clause-low
+to-a-requires-clause-low c =
+    to_low (view c.args.w.now) c.args.x.now c.args.m c.requires.bounds c.requires.index c.requires.m_in
 
 pub returns : goal.returns
-returns c =
+returns c s e =
     let a = c.args in
-    let hm : a.m < 64 = omega (arith, c.requires.2, c.requires.4.counts) in (
-      c.set_letters.ensures.0,
-      λ s e. c.set_letters.ensures.1
-          ∙ sent_law a.w.now a.p a.m a.k c.requires.1 hm c.requires.3
-          (addressees_law a.w.now a.m c.requires.4 hm (c.to-a.ensures ∙ c.requires.5.to a.m c.requires.2)) s e,
-    )
+    let hm : a.m < 64 = omega arith in
+    c.set_letters.ensures
+    ∙ sent_law a.w.now a.p a.m a.k c.requires.p_in hm c.requires.k_in
+    (addressees_law a.w.now a.m c.requires.bounds hm (c.to-a.ensures ∙ c.requires.index.to a.m c.requires.m_in)) s e

@@ -1,7 +1,6 @@
 -- `serving::serve` meets its contract. The loop's invariant: the world is sound, index and queues are its, and settling by
 -- turns goes on from it, in the turn reached, with what is left of the budget. Assumes nothing.
-use mathlib.Core.Path.{◌≡◌}
-use Prim.Native.Nat.{◌-◌, ◌≤◌}
+use Rattle.std.proofs.Common.{◌≡◌, ◌-◌}
 use Rattle.definitions.specs.Settle.{by_turns}
 use Rattle.definitions.specs.Words.{settle_words}
 use Rattle.settling.specs.Settling.{settling_from}
@@ -10,8 +9,5 @@ use Rattle.serving.proofs.serve.Given as goal
 
 abbrev pub invariant-loop-made : goal.invariant-loop-made
 invariant-loop-made l =
-    (l.made ≤ l.budget) × Turning l.w l.x l.a l.up l.quiescent l.turn
+    Turning l.w l.x l.a l.up l.quiescent l.turn
     × (settle_words by_turns l.initial.w l.budget ≡ settling_from by_turns (l.budget - l.made) l.made l.turn l.w)
-
-abbrev pub decreases-loop-made : goal.decreases-loop-made
-decreases-loop-made l = l.budget - l.made

@@ -1,106 +1,109 @@
--- `settling::batch` meets its contract. The loop's invariant: what a batch leaves, so far, and the receivers left. Assumes nothing.
-use mathlib.Core.Path.{◌≡◌, sym, ◌∙◌, subst}
-use mathlib.Core.List.{List}
-use Prim.Native.Nat.{ℕ, ◌<◌}
-use native.Mathlib.Omega.{arith}
+-- `settling::batch` meets its contract. Assumes nothing.
+use Rattle.std.proofs.Common.{sym, ◌∙◌, subst, ◌+◌, ◌<◌, arith}
 use Rattle.letters.specs.declared.Place.{Place}
-use Rattle.arrivals.specs.Arrival.{Arrived, arrived_marked, arrived_followed, follows}
+use Rattle.arrivals.specs.Arrival.{Arrives, Arrived, arrived_marked, arrived_followed, follows}
 use Rattle.settling.specs.Batch.{Batched, sending_low, sending_arrives, sending_out, sending_more, sending_less, with_same}
 use Rattle.settling.proofs.batch.Goals as goal
-use Rattle.settling.proofs.batch.Goals.{After-follow-sent, After-lowest-p}
-
--- what is told of a batch
-told : {w₀ w x : List ℕ} {live made₀ made made' budget mask mask' : ℕ} {place place' : Place} →
-    (made' ≡ made) × (mask' ≡ mask) × (place' ≡ place)
-    → Batched w₀ w x live mask made₀ made budget place → made₀ < made
-    → Batched w₀ w x live mask' made₀ made' budget place' × (made₀ < made')
-told {w₀} {w} {x} {live} {made₀} {made} {made'} {budget} {mask} {mask'} {place} {place'} e b l = (
-  subst (λ (y : ℕ). Batched w₀ w x live y made₀ made' budget place') (sym e.1)
-      (subst (λ (y : Place). Batched w₀ w x live mask made₀ made' budget y) (sym e.2)
-      (subst (λ (y : ℕ). Batched w₀ w x live mask made₀ y budget place) (sym e.0) b)),
-  omega (arith, e.0),
-)
+use Rattle.settling.proofs.batch.Goals.{After-follow-sent, After-has-known, After-lowest-p}
 
 -- the receiver
 low : (c : After-lowest-p) → c.lowest-p.result < 16
-low c = sending_low c.loop-left.invariant c.loop-left-test.true c.lowest-p.ensures
+low c = sending_low c.loop-left.invariant.0 c.loop-left-test.true c.lowest-p.ensures
 
 -- the budget is not used up
-more : (c : After-lowest-p)
-    → c.loop-left.done < c.args.budget
-more c = omega (arith, c.loop-left.invariant.batched.most, c.if-done-budget.false)
+more : (c : After-lowest-p) → c.loop-left.reached.made < c.args.budget
+more c = omega (arith, c.loop-left.invariant.0.batched.most, c.if-reached-budget.false)
 
--- what has come of an arrival
+-- what its arrival leans on
+leans : (c : After-has-known)
+    → let at = c.args.from.place in
+    Arrives c.loop-left.w c.loop-left.x at.kind at.message at.origin c.lowest-p.result c.has-known.result
+leans c = sending_arrives c.loop-left.invariant.0 c.loop-left-test.true c.lowest-p.ensures c.has-known.ensures
+
+-- what has come of it
 followed : (c : After-follow-sent)
-    → let a = c.args in
-    Arrived c.loop-left.w c.follow-sent.new.w c.follow-sent.new.x a.k a.m a.q c.lowest-p.result
+    → let at = c.args.from.place in
+    Arrived c.loop-left.w c.follow-sent.new.w c.follow-sent.new.x at.kind at.message at.origin c.lowest-p.result
     c.follow-sent.result.place
 followed c =
-    let h = sending_arrives c.loop-left.invariant c.loop-left-test.true c.lowest-p.ensures c.test-known.ensures in
-    arrived_followed _ c.touch.new.w _ _ _ _ _ c.test-known.result h c.touch.ensures.words.0 c.touch.ensures.words.1
-    c.follow-sent.ensures.words.0 c.follow-sent.ensures.words.1 c.follow-sent.ensures.index
+    arrived_followed _ c.touch.new.w _ _ _ _ _ c.has-known.result (leans (goal.at.After-follow-sent c).After-has-known)
+    (omega arith) c.touch.ensures.words (omega arith) c.follow-sent.ensures.words c.follow-sent.ensures.index
     c.follow-sent.ensures.place
 
-pub test-known-requires : goal.test-known-requires
-test-known-requires c = low (goal.at.test-known-requires c).After-lowest-p
+pub has-known-requires : goal.has-known-requires
+has-known-requires c = low (goal.at.has-known-requires c).After-lowest-p
 
-pub clear-left-requires : goal.clear-left-requires
-clear-left-requires c = low (goal.at.clear-left-requires c).After-lowest-p
+pub drop-left-requires : goal.drop-left-requires
+drop-left-requires c = low (goal.at.drop-left-requires c).After-lowest-p
 
 pub touch-requires : goal.touch-requires
 touch-requires c =
-    let h = sending_arrives c.loop-left.invariant c.loop-left-test.true c.lowest-p.ensures c.test-known.ensures in
-    (h.long, h.to, h.message, h.bounds, h.index, h.kind, h.from)
+    let h = leans (goal.at.touch-requires c).After-has-known in
+    record { kind_in = h.kind; message_in = h.message; from_in = h.from; to_in = h.to; bounds = h.bounds; index = h.index }
 
-pub set-calm-requires : goal.set-calm-requires
-set-calm-requires c = low (goal.at.set-calm-requires c).After-lowest-p
+pub join-requires : goal.join-requires
+join-requires c = low (goal.at.join-requires c).After-lowest-p
 
 pub follow-sent-requires : goal.follow-sent-requires
 follow-sent-requires c =
-    let h = sending_arrives c.loop-left.invariant c.loop-left-test.true c.lowest-p.ensures c.test-known.ensures in
-    follows _ c.touch.new.w _ _ _ _ _ c.test-known.result h c.touch.ensures.words.0 c.touch.ensures.words.1
+    follows _ c.touch.new.w _ _ _ _ _ c.has-known.result (leans (goal.at.follow-sent-requires c).After-has-known)
+    (omega arith) c.touch.ensures.words
 
-pub next_place-requires : goal.next_place-requires
-next_place-requires c =
-    let h = sending_arrives c.loop-left.invariant c.loop-left-test.true c.lowest-p.ensures c.test-known.ensures in
+pub next_place-reached-requires : goal.next_place-reached-requires
+next_place-reached-requires c =
+    let h = leans (goal.at.next_place-reached-requires c).After-has-known in
     (h.kind, omega (arith, h.message, h.bounds.counts), h.from)
 
-pub returns-then-sent-here : goal.returns-then-sent-here
-returns-then-sent-here c =
-    told (
-      c.so_far-then-sent-here.ensures.0,
-      c.so_far-then-sent-here.ensures.1,
-      c.so_far-then-sent-here.ensures.2 ∙ c.next_place.ensures,
-    )
-    (sending_out c.loop-left.invariant c.loop-left-test.true c.lowest-p.ensures
-    (more (goal.at.returns-then-sent-here c).After-lowest-p)
-    (followed (goal.at.returns-then-sent-here c).After-follow-sent) c.set-calm.ensures)
-    (omega (arith, c.loop-left.invariant.least))
+-- the place is still the one that it began with
+pub returns-then-reached-budget-clause-reached : goal.returns-then-reached-budget-clause-reached
+returns-then-reached-budget-clause-reached c =
+    let a = c.args in
+    let l = c.loop-left in
+    subst (λ (y : Place). Batched a.w.now l.w l.x a.up l.reached.quiescent a.from.made l.reached.made a.budget y)
+    (sym l.invariant.1) l.invariant.0.batched
+
+pub returns-clause-reached : goal.returns-clause-reached
+returns-clause-reached c =
+    let a = c.args in
+    let l = c.loop-left in
+    subst (λ (y : Place). Batched a.w.now l.w l.x a.up l.reached.quiescent a.from.made l.reached.made a.budget y)
+    (sym l.invariant.1) l.invariant.0.batched
+
+pub returns-then-sent-here-clause-reached : goal.returns-then-sent-here-clause-reached
+returns-then-sent-here-clause-reached c =
+    let at = goal.at.returns-then-sent-here-clause-reached c in
+    let a = c.args in
+    let f = a.from in
+    subst (λ (y : Place). Batched a.w.now c.follow-sent.new.w c.follow-sent.new.x a.up c.join.result f.made
+    (c.loop-left.reached.made + 1) a.budget y) (sym c.next_place-reached.ensures)
+    (sending_out c.loop-left.invariant.0 c.loop-left-test.true c.lowest-p.ensures (more at.After-lowest-p)
+    (followed at.After-follow-sent) c.join.ensures)
 
 pub loop-left-smaller-else-sent-here : goal.loop-left-smaller-else-sent-here
 loop-left-smaller-else-sent-here c =
-    sending_less c.loop-left.invariant c.loop-left-test.true c.lowest-p.ensures c.clear-left.ensures
+    sending_less c.loop-left.invariant.0 c.loop-left-test.true c.lowest-p.ensures c.drop-left.ensures
 
 pub loop-left-preserved-else-sent-here : goal.loop-left-preserved-else-sent-here
 loop-left-preserved-else-sent-here c =
-    sending_more c.loop-left.invariant c.loop-left-test.true c.lowest-p.ensures
-    (more (goal.at.loop-left-preserved-else-sent-here c).After-lowest-p)
-    (followed (goal.at.loop-left-preserved-else-sent-here c).After-follow-sent) c.set-calm.ensures
-    c.if-sent-here.false
-    c.clear-left.ensures
+    let at = goal.at.loop-left-preserved-else-sent-here c in (
+      sending_more c.loop-left.invariant.0 c.loop-left-test.true c.lowest-p.ensures (more at.After-lowest-p)
+          (followed at.After-follow-sent) c.join.ensures c.if-sent-here.false c.drop-left.ensures,
+      c.loop-left.invariant.1,
+    )
 
 pub loop-left-smaller : goal.loop-left-smaller
 loop-left-smaller c =
-    sending_less c.loop-left.invariant c.loop-left-test.true c.lowest-p.ensures c.clear-left.ensures
+    sending_less c.loop-left.invariant.0 c.loop-left-test.true c.lowest-p.ensures c.drop-left.ensures
 
 pub loop-left-preserved : goal.loop-left-preserved
 loop-left-preserved c =
-    let h = sending_arrives c.loop-left.invariant c.loop-left-test.true c.lowest-p.ensures c.test-known.ensures in
+    let at = goal.at.loop-left-preserved c in
+    let h = leans at.After-has-known in
     let z = c.touch.ensures.over c.if-touch.false in
-    let g = c.loop-left.invariant.batched.going.passed in
-    sending_more c.loop-left.invariant c.loop-left-test.true c.lowest-p.ensures
-    (more (goal.at.loop-left-preserved c).After-lowest-p)
-    (arrived_marked _ c.touch.new.w _ _ _ _ _ c.test-known.result h c.touch.ensures.words.0
-    c.touch.ensures.words.1 3072 z)
-    (with_same c.loop-left.calm c.lowest-p.result (sym c.test-known.ensures ∙ z.0))
-    (omega (arith, g.low, g.kinds, h.from)) c.clear-left.ensures
+    let g = c.loop-left.invariant.0.batched.going.passed in (
+      sending_more c.loop-left.invariant.0 c.loop-left-test.true c.lowest-p.ensures (more at.After-lowest-p)
+          (arrived_marked _ c.touch.new.w _ _ _ _ _ c.has-known.result h (omega arith) c.touch.ensures.words 3072 z)
+          (with_same c.loop-left.reached.quiescent c.lowest-p.result (sym c.has-known.ensures ∙ z.0))
+          (omega (arith, g.low, g.kinds, h.from)) c.drop-left.ensures,
+      c.loop-left.invariant.1,
+    )

@@ -9,13 +9,14 @@ use Rattle.setup.proofs.follows_one.Goals as goal
 
 pub returns-then-g-eq0 : goal.returns-then-g-eq0
 unfolding follows
-returns-then-g-eq0 c = rw
-    (eq-eqb (group_in c.args.bits c.args.p) 0
+returns-then-g-eq0 c =
+    eq-eqb c.group_of-g.result 0 c.if-g-eq0.true
+    ∙ rw (eq-eqb (group_in c.args.bits c.args.p) 0
     (sym c.group_of-g.ensures ∙ c.if-g-eq0.true))
 
-pub returns : goal.returns
+pub returns-else-g-eq0 : goal.returns-else-g-eq0
 unfolding follows
-returns c =
+returns-else-g-eq0 c =
     let a = c.args in
     rw (ne_eqb (group_in a.bits a.p) 0 (λ e. c.if-g-eq0.false (c.group_of-g.ensures ∙ e)))
     (c.has.ensures ∙ ap (λ (x : ℕ). has_group (fresh a.n (group_in a.bits)) (x - 1)) c.group_of-g.ensures)

@@ -13,7 +13,7 @@ use Rattle.setup.proofs.has.Goals as goal
 
 pub loop-p-init : goal.loop-p-init
 unfolding every
-loop-p-init c = (omega arith, refl)
+loop-p-init c = refl
 
 pub returns-then-group_of-g : goal.returns-then-group_of-g
 returns-then-group_of-g c =
@@ -24,11 +24,9 @@ returns-then-group_of-g c =
 
 pub loop-p-preserved : goal.loop-p-preserved
 loop-p-preserved c =
-    let a = c.args in (
-      omega arith,
-      every_more c.loop-p.p (λ i. not (eqb (group_in a.bits i) a.g)) c.loop-p.invariant.1
-          (is_other _ _ (λ e. c.if-group_of-g.false (c.group_of.ensures ∙ e))),
-    )
+    let a = c.args in
+    every_more c.loop-p.p (λ i. not (eqb (group_in a.bits i) a.g)) c.loop-p.invariant
+    (is_other _ _ (λ e. c.if-group_of-g.false (c.group_of.ensures ∙ e)))
 
 pub returns : goal.returns
 unfolding some
@@ -36,4 +34,4 @@ returns c =
     let l = c.loop-p in
     let a = c.args in
     let e : l.p ≡ a.n = omega arith in
-    sym (fresh_groups a.n (group_in a.bits) a.g ∙ ap not (rw e at l.invariant.1))
+    sym (fresh_groups a.n (group_in a.bits) a.g ∙ ap not (rw e at l.invariant))

@@ -9,7 +9,7 @@ use Rattle.setup.proofs.without_gap.Goals as goal
 
 pub loop-p-init : goal.loop-p-init
 unfolding every
-loop-p-init c = (omega arith, refl)
+loop-p-init c = refl
 
 pub returns-then-not-follows_one : goal.returns-then-not-follows_one
 unfolding no_gap
@@ -20,11 +20,9 @@ returns-then-not-follows_one c =
 
 pub loop-p-preserved : goal.loop-p-preserved
 loop-p-preserved c =
-    let a = c.args in (
-      omega arith,
-      every_more c.loop-p.p (follows a.bits a.n) c.loop-p.invariant.1
-          (sym c.follows_one.ensures ∙ c.if-not-follows_one.false),
-    )
+    let a = c.args in
+    every_more c.loop-p.p (follows a.bits a.n) c.loop-p.invariant
+    (sym c.follows_one.ensures ∙ c.if-not-follows_one.false)
 
 pub returns : goal.returns
 unfolding no_gap
@@ -32,4 +30,4 @@ returns c =
     let l = c.loop-p in
     let a = c.args in
     let e : l.p ≡ a.n = omega arith in
-    sym (rw e at l.invariant.1)
+    sym (rw e at l.invariant)

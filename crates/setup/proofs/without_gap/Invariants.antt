@@ -2,13 +2,9 @@
 -- another. Assumes nothing.
 use mathlib.Core.Path.{◌≡◌}
 use mathlib.Core.Bool.{true}
-use Prim.Native.Nat.{◌-◌, ◌≤◌}
 use Rattle.definitions.specs.General.{every}
 use Rattle.setup.specs.Groups.{follows}
 use Rattle.setup.proofs.without_gap.Given as goal
 
 abbrev pub invariant-loop-p : goal.invariant-loop-p
-invariant-loop-p l = (l.p ≤ l.n) × (every l.p (follows l.bits l.n) ≡ true)
-
-abbrev pub decreases-loop-p : goal.decreases-loop-p
-decreases-loop-p l = l.n - l.p
+invariant-loop-p l = every l.p (follows l.bits l.n) ≡ true

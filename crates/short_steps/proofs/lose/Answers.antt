@@ -6,4 +6,4 @@ use Rattle.short_steps.proofs.lose.Goals as goal
 pub returns : goal.returns
 returns c =
     let a = c.args in
-    changes_own a.w.now _ (λ s. leave s a.k a.m a.q a.p) c.requires.0 c.take_out.ensures.1
+    changes_own a.w.now _ (λ s. leave s a.letter.kind a.letter.message a.letter.from a.letter.to) c.told-w c.take_out.ensures

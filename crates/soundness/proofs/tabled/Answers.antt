@@ -10,24 +10,19 @@ pub enter-requires : goal.enter-requires
 enter-requires c =
     let a = c.args in
     record {
-      long = c.requires.x_len;
-      few = c.requires.ready.sized.few;
-      addressees = c.requires.ready.to.long;
-      senders = c.requires.tables.senders.long;
-      small = from_small a.w.now a.n a.count a.limits.now a.addressees.now a.from.now a.bits.now
-          c.requires.ready c.requires.tables;
-      powers = c.requires.tables.powers;
+      few = c.requires.sized.few;
+      small = from_small a.w.now a.t.now c.requires;
+      powers = c.requires.powers;
     }
 
 pub returns : goal.returns
 returns c =
     let a = c.args in
-    let z = c.requires.ready.sized in
-    let g = ap₂ both c.processes-first.ensures.0 c.beyond.ensures ∙ beyond_law a.w.now a.n a.count z in
+    let z = c.requires.sized in
+    let f = c.processes-first in
+    let g = ap₂ both f.ensures.good c.beyond.ensures ∙ beyond_law a.w.now a.t.now.size a.t.now.count z in
     record {
       is_good = g;
-      index = λ q. index_law a.w.now a.n a.count a.addressees.now a.from.now a.bits.now
-          z.size_is z.count_is z.few c.requires.ready.to c.requires.tables _ _ c.enter.ensures
-          c.processes-first.result c.processes-first.ensures.1 (both_l c.processes-first.result c.beyond.result q)
-          (sym g ∙ q);
+      index = λ q. index_law a.w.now a.t.now c.requires _ _ c.enter.ensures
+          (rw (both_l f.result c.beyond.result q) at f.ensures.rows) (sym g ∙ q);
     }

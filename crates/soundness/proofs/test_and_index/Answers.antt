@@ -1,6 +1,7 @@
 -- `soundness::test_and_index` meets its contract: what exists is tested part by part, and a part that fails is a
 -- world that is not sound. Assumes nothing.
-use mathlib.Core.Path.{sym, ◌∙◌}
+use mathlib.Core.Path.{refl, sym, ◌∙◌}
+use mathlib.Core.Bool.{false}
 use Rattle.definitions.specs.World.{view}
 use Rattle.heads.specs.Known.{Sized}
 use Rattle.soundness.specs.Whole.{not_sound, header_sound, header_sized, groups_sound, groups_placed, heads_sound, heads_headed}
@@ -9,12 +10,10 @@ use Rattle.soundness.proofs.test_and_index.Goals as goal
 use Rattle.soundness.proofs.test_and_index.Goals.{Else-not-header}
 
 -- what the tests passed so far tell
-sized : (c : Else-not-header)
-    → Sized c.args.w.now
-    c.word-n.result c.word-count.result
+sized : (c : Else-not-header) → Sized c.args.w.now c.word-n.result c.word-count.result
 sized c =
     header_sized c.args.w.now c.word-n.result c.word-count.result c.word.result c.word-n.ensures
-    c.word-count.ensures c.word.ensures c.requires.w_len (sym c.header.ensures ∙ c.if-not-header.false)
+    c.word-count.ensures c.word.ensures c.told-w (sym c.header.ensures ∙ c.if-not-header.false)
 
 pub returns-then-not-header : goal.returns-then-not-header
 returns-then-not-header c =
@@ -23,12 +22,11 @@ returns-then-not-header c =
     ∙ header_sound c.args.w.now c.word-n.result c.word-count.result c.word.result
     c.word-n.ensures c.word-count.ensures c.word.ensures e))
 
-pub returns-then-not-numbered : goal.returns-then-not-numbered
-returns-then-not-numbered c =
-    let g = c.groups-g in
-    tested_not (view c.args.w.now) _ (not_sound (view c.args.w.now) g.result.good c.if-not-numbered.true
-    (λ e. g.ensures.is_good ∙ groups_sound (view c.args.w.now) c.word-n.result
-    (sized (goal.at.returns-then-not-numbered c).Else-not-header).high e))
+pub returns-in_default : goal.returns-in_default
+returns-in_default c =
+    tested_not (view c.args.w.now) _ (not_sound (view c.args.w.now) false refl
+    (λ e. c.in_default.ensures.is_good ∙ groups_sound (view c.args.w.now) c.word-n.result
+    (sized (goal.at.returns-in_default c).Else-not-header).high e))
 
 pub returns-then-not-messages : goal.returns-then-not-messages
 returns-then-not-messages c =
@@ -39,9 +37,7 @@ returns-then-not-messages c =
 
 pub whole-requires-clause-placed : goal.whole-requires-clause-placed
 whole-requires-clause-placed c =
-    let g = c.groups-g in
-    groups_placed (view c.args.w.now) c.word-n.result g.result.good g.result.set
-    c.word-n.ensures g.ensures c.if-not-numbered.false
+    groups_placed (view c.args.w.now) c.word-n.result _ c.word-n.ensures c.in-Some.ensures
 
 pub whole-requires-clause-headed : goal.whole-requires-clause-headed
 whole-requires-clause-headed c =

@@ -21,7 +21,7 @@ row16 c =
 
 pub loop-g-init : goal.loop-g-init
 unfolding concat
-loop-g-init c = (search rules, (refl, (sym (splice_nil _ _), refl)))
+loop-g-init c = (sym (splice_nil _ _), refl)
 
 pub loop-g-preserved : goal.loop-g-preserved
 loop-g-preserved c =
@@ -32,15 +32,9 @@ loop-g-preserved c =
     let lr : length r ≡ 16 = row16 (goal.at.loop-g-preserved c).After-r-in-loop-g-1 in
     let more : concat (take (l.g + 1) a.t) ≡ concat (take l.g a.t) ++ r = concat_more a.t
     l.g h in (
-      omega arith,
-      (
-        c.put.auto.w ∙ l.invariant.1.0,
-        (
-          c.put.ensures ∙ ap (λ (x : List ℕ). splice x (a.base + l.g * 16) r) l.invariant.1.1.0
-              ∙ splice_append a.w.now a.base (concat (take l.g a.t)) r (a.base + l.g * 16)
-              (omega arith) (omega (arith, c.requires))
-              ∙ ap (splice a.w.now a.base) (sym more),
-          ap length more ∙ simp length-append (omega arith),
-        ),
-      ),
+      c.put.ensures ∙ ap (λ (x : List ℕ). splice x (a.base + l.g * 16) r) l.invariant.0
+          ∙ splice_append a.w.now a.base (concat (take l.g a.t)) r (a.base + l.g * 16)
+          (omega arith) (omega (arith, c.requires))
+          ∙ ap (splice a.w.now a.base) (sym more),
+      ap length more ∙ simp length-append (omega arith),
     )

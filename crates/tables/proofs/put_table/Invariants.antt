@@ -1,7 +1,7 @@
 -- `tables::put_table` meets its contract. The loop's invariant: the rows below g are stored. Assumes
 -- nothing.
 use mathlib.Core.Path.{◌≡◌}
-use Prim.Native.Nat.{◌*◌, ◌-◌, ◌≤◌}
+use Prim.Native.Nat.{◌*◌}
 use lib.ListN.{length, take}
 use Rattle.base.specs.Tabulate.{splice}
 use Rattle.tables.specs.Table.{concat}
@@ -9,8 +9,4 @@ use Rattle.tables.proofs.put_table.Given as goal
 
 abbrev pub invariant-loop-g : goal.invariant-loop-g
 invariant-loop-g l =
-    (l.g ≤ 8) × ((length l.w ≡ length l.initial.w) ×
-    ((l.w ≡ splice l.initial.w l.base (concat (take l.g l.t))) × (length (concat (take l.g l.t)) ≡ l.g * 16)))
-
-abbrev pub decreases-loop-g : goal.decreases-loop-g
-decreases-loop-g l = 8 - l.g
+    (l.w ≡ splice l.initial.w l.base (concat (take l.g l.t))) × (length (concat (take l.g l.t)) ≡ l.g * 16)

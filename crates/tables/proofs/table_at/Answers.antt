@@ -18,18 +18,13 @@ loop-g-preserved c =
     let h : l.g < 8 = omega arith in
     let e : c.row_at.result ≡ get_or (table_at 8 16 (drop b w)) l.g [] =
     c.row_at.ensures ∙ sym (row_of 8 16 (drop b w) l.g h ∙ ap (take 16) (drop-drop (l.g * 16) b w)) in (
-      omega arith,
-      (
-        simp length-set (omega arith),
-        rw e
-            (filled_more [] l.t (table_at 8 16 (drop b w)) l.g (omega arith) (rw length_table h)
-            l.invariant.1.1),
-      ),
+      simp length-set (omega arith),
+      rw e (filled_more [] l.t (table_at 8 16 (drop b w)) l.g (omega arith) (rw length_table h) l.invariant.1),
     )
 
 pub returns : goal.returns
 returns c =
     let l = c.loop-g in
     let e : l.g ≡ 8 = omega arith in
-    sym (take_all 8 l.t (omega arith)) ∙ (rw e at l.invariant.1.1)
+    sym (take_all 8 l.t (omega arith)) ∙ (rw e at l.invariant.1)
     ∙ take_all 8 _ (rw length_table (omega arith))

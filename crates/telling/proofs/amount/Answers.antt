@@ -5,4 +5,4 @@ use Rattle.definitions.specs.Answers.{amount_reply}
 use Rattle.telling.proofs.amount.Goals as goal
 
 pub overflow_cast-value : goal.overflow_cast-value
-overflow_cast-value c = omega (arith, c.requires _ (ap amount_reply (sym c.in-Is.is)))
+overflow_cast-value c = omega (arith, c.requires _ (ap amount_reply (sym c.in-Ok.is)))

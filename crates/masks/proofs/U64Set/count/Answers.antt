@@ -1,0 +1,6 @@
+-- `count` at 64 bits meets its contract. Assumes nothing.
+use Rattle.masks.specs.Ones.{ones_members}
+use Rattle.masks.proofs.U64Set.count.Goals as goal
+
+pub returns : goal.returns
+returns c = ones_members 64 c.args.self c.ranges.self.fits

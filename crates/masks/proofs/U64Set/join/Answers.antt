@@ -1,0 +1,6 @@
+-- `join` at 64 bits meets its contract. Assumes nothing.
+use Rattle.base.specs.Bits.{one_shl, or_with}
+use Rattle.masks.proofs.U64Set.join.Goals as goal
+
+pub returns : goal.returns
+returns c = rw (one_shl 64 c.args.x c.requires) (or_with c.args.self c.args.x)

@@ -1,0 +1,6 @@
+-- `rest` at 64 bits meets its contract. Assumes nothing.
+use Rattle.base.specs.Sets.{rest_lowest}
+use Rattle.masks.proofs.U64Set.rest.Goals as goal
+
+pub returns : goal.returns
+returns c = rest_lowest 64 c.args.self c.ranges.self.fits c.requires

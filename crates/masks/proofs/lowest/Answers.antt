@@ -1,6 +1,0 @@
--- `masks::lowest` meets its contract. Assumes nothing.
-use Rattle.base.specs.Sets.{trailing_lowest}
-use Rattle.masks.proofs.lowest.Goals as goal
-
-pub returns : goal.returns
-returns c = trailing_lowest 16 c.args.m

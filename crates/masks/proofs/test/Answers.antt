@@ -1,8 +1,0 @@
--- `masks::test` meets its contract. Assumes nothing.
-use mathlib.Core.Path.{refl}
-use Rattle.definitions.specs.General.{bit}
-use Rattle.masks.proofs.test.Goals as goal
-
-pub returns : goal.returns
-unfolding bit
-returns c = refl
