@@ -1,13 +1,15 @@
 // Reads a journal on standard input, replays it, and writes the numbers of steps and of refused steps, then a line for
-// each process; or the number of the journal's refusal. A read or a write that fails ends the program with its error.
+// each process; or the number of the journal's refusal. The output is gathered in 1,024 bytes, so that the program takes
+// nothing from the heap. A read or a write that fails ends the program with its error, and nothing is written after it.
 #![tactic(auto)]
 
-ghost use Rattle.std.specs.Prelude.{◌≤◌, ◌<◌, IfOk, length};
+ghost use Rattle.std.specs.Prelude.{◌≡◌, ◌≤◌, ◌<◌, IfOk, None, length};
+ghost use Rattle.std.specs.Io.KnownBytes.{Keeps};
 ghost use Rattle.definitions.specs.World.{size, view};
 ghost use Rattle.keeps.specs.Keeps.{SoundWords};
 
 use cells::Words;
-use std::io::{BufWriter, Read, Write};
+use std::io::{Read, Write};
 use std::{fmt, io};
 
 // Room for the longest journal and a byte more, so that a longer input is seen to be one.
@@ -27,6 +29,46 @@ fn read_full(rt: &HostRuntime, buf: &mut [u8]) -> io::Result<usize>
         done += n;
     }
     Ok(done)
+}
+
+// What is to be written, gathered. No BufWriter: its buffer is on the heap, and once a write has failed it writes what is left
+// when it is let go.
+#[derive(Drop)]
+struct Gathered<'a> {
+    rt: &'a HostRuntime,
+    bytes: [u8; 1024],
+    len: usize,
+    ghost fits: { len ≤ 1024 },
+}
+
+impl Write for Gathered<'_> {
+    fn write(&mut self, text: &[u8]) -> io::Result<usize> {
+        self.write_all(text)?;
+        Ok(text.len())
+    }
+
+    // Writes what is gathered. Nothing of it is left, also where that fails. The first clause is std's, of a writer whose bytes no
+    // contract knows.
+    fn flush(&mut self) -> io::Result<()>
+        ensures bytes { Keeps None None }
+        ensures emptied { self.new.len ≡ 0 }
+    {
+        let len = self.len;
+        self.len = 0;
+        self.rt.write_all(&self.bytes[..len])
+    }
+
+    // Puts the text behind what is gathered, byte by byte, and writes what is gathered where there is no room for more.
+    fn write_all(&mut self, text: &[u8]) -> io::Result<()> {
+        for byte in text {
+            if self.len == 1024 {
+                self.flush()?;
+            }
+            self.bytes[self.len] = *byte;
+            self.len += 1;
+        }
+        Ok(())
+    }
 }
 
 // The items of a log, a space before each.
@@ -72,7 +114,11 @@ fn main(rt: HostRuntime) -> io::Result<()> {
     let mut w: Words = [0; 20480];
     let mut journal: Room = [0; 65537];
     let n = read_full(&rt, &mut journal)?;
-    let mut out = BufWriter::new(rt.alloc(), io::writer(&rt))?;
+    let mut out = Gathered {
+        rt: &rt,
+        bytes: [0; 1024],
+        len: 0,
+    };
     run(&mut out, &mut w, &journal[..n])?;
     out.flush()
 }
