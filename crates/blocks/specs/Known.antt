@@ -22,14 +22,17 @@ pub record Bounds (s : State) (t : List ℕ) : Type 0 where
   pub items : (i : ℕ) → i < 64 → get_or t (152 + i) 0 ≡ 63
   pub past : (i : ℕ) → i < 64 → get_or t (216 + i) 0 ≡ 0
 
--- What exists may be, and the tables are those of the world.
+-- What exists may be, and the limits and the addressees are those of the world.
 pub record Ready (w : List ℕ) (t : Known) : Type 0 where
   pub sized : Sized w t.size t.count
   pub placed : Placed (view w)
   pub headed : Headed (view w)
   pub bounds : Bounds (view w) t.limits
   pub to : Addressees (view w) t.addressees
-  pub senders : Senders (view w) t.count t.from
+
+-- The senders of the messages, and the bits of a set.
+pub record Tables (s : State) (t : Known) : Type 0 where
+  pub senders : Senders s t.count t.from
   pub powers : Powers t.bits
 
 -- The logs of p have room.
@@ -49,9 +52,9 @@ sender_low w t h m k =
     (lt-ltb m (view w count) (omega arith))) in
     omega arith
 
-pub from_small : (w : List ℕ) (t : Known) → Ready w t → (m : ℕ) → m < 64 → get_or t.from m 0 < 16
-from_small w t h m k = go (le_or_lt t.count m)
+pub from_small : (w : List ℕ) (t : Known) → Ready w t → Tables (view w) t → (m : ℕ) → m < 64 → get_or t.from m 0 < 16
+from_small w t h b m k = go (le_or_lt t.count m)
   where
     go : (t.count ≤ m) ⊎ (m < t.count) → get_or t.from m 0 < 16
-    go (inl a) = omega (arith, h.senders.past m a k)
-    go (inr a) = omega (arith, h.senders.at m a, sender_low w t h m a)
+    go (inl a) = omega (arith, b.senders.past m a k)
+    go (inr a) = omega (arith, b.senders.at m a, sender_low w t h m a)

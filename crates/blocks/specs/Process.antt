@@ -24,7 +24,7 @@ use Rattle.regions.specs.Runs.{fine_run, run_one, run_join, run_part, run_cell}
 use Rattle.regions.specs.Rows.{Block}
 use Rattle.regions.specs.Nexts.{nexts_at, nexts_law}
 use Rattle.blocks.specs.declared.Known.{Known}
-use Rattle.blocks.specs.Known.{Ready, Lengths, from_small}
+use Rattle.blocks.specs.Known.{Ready, Tables, Lengths, from_small}
 use Rattle.blocks.specs.Counted.{table_law, row_law}
 use Rattle.blocks.specs.Logs.{tidy_log, tidy_logs, logs_fine, LogsOf, tidy_low, fine_tidy, logs_law, passed_counted}
 
@@ -181,10 +181,10 @@ module _ (w : List ℕ) (p : ℕ) (t : Known) (h : Ready w t) (l : p < t.size) w
         → item_of (part (3 + p * 429 + 301) n) i ≡ view w (fifo p i)
     first_item n e i k = part_word w (3 + p * 429 + 301) n i (omega (arith, k, first_length n e))
 
-    pub passable : (n : ℕ) → n ≡ view w (fifo_length p)
+    pub passable : Tables (view w) t → (n : ℕ) → n ≡ view w (fifo_length p)
         → Passable (part (3 + p * 429 + 301) n) t.addressees t.from t.bits
     unfolding tidy_logs
-    passable n e = record {
+    passable b n e = record {
       items = λ i k. omega (
         arith,
         first_item n e i k,
@@ -195,9 +195,9 @@ module _ (w : List ℕ) (p : ℕ) (t : Known) (h : Ready w t) (l : p < t.size) w
       );
       few = omega (arith, first_length n e, r.fifo_few);
       addressees = h.to.long;
-      senders = h.senders.long;
-      small = from_small w t h;
-      powers = h.powers;
+      senders = b.senders.long;
+      small = from_small w t h b;
+      powers = b.powers;
     }
 
     pub causal_items : (n : ℕ) → n ≡ view w (causal_length p) → Low (part (3 + p * 429 + 365) n)
@@ -212,8 +212,8 @@ module _ (w : List ℕ) (p : ℕ) (t : Known) (h : Ready w t) (l : p < t.size) w
               (tidy_log (view w (causal_length p)) (λ j. view w (causal p j))) tidy) r.causal_few i (omega arith),
         )
 
-    pub logs_told : (f c x y fifos all causals : ℕ) (counts : List ℕ) (next good : Bool) → f ≡ view w (fifo_length p)
-        → c ≡ view w (causal_length p) → x ≡ f → y ≡ c → causals < 2 ^ 64
+    pub logs_told : Tables (view w) t → (f c x y fifos all causals : ℕ) (counts : List ℕ) (next good : Bool)
+        → f ≡ view w (fifo_length p) → c ≡ view w (causal_length p) → x ≡ f → y ≡ c → causals < 2 ^ 64
         → Passed (item_of (part (3 + p * 429 + 301) x)) (length (part (3 + p * 429 + 301) x)) t.addressees t.from fifos all
         counts
         → Members causals (length (part (3 + p * 429 + 365) y)) (item_of (part (3 + p * 429 + 365) y))
@@ -221,18 +221,18 @@ module _ (w : List ℕ) (p : ℕ) (t : Known) (h : Ready w t) (l : p < t.size) w
         → ((((eqb (tally 64 (bit fifos)) f && bit all p) && eqb (tally 64 (bit causals)) c)
         && eqb (bit_and causals fifos) causals) && next) ≡ good
         → LogsOf (view w) p (cond good (Some record { fifo = fifos; causal = causals }) None)
-    logs_told f c x y fifos all causals counts next good ef ec ex ey small parts_a parts_b en =
+    logs_told b f c x y fifos all causals counts next good ef ec ex ey small parts_a parts_b en =
         let a = passed_cong (item_of (part (3 + p * 429 + 301) x)) (log_at w (3 + p * 429 + 301)) _ f
         (first_length x (ex ∙ ef) ∙ ex) (λ i l. part_word w (3 + p * 429 + 301) x i (omega arith)) parts_a in
-        let b = members_cong causals _ c (item_of (part (3 + p * 429 + 365) y)) (log_at w (3 + p * 429 + 365))
+        let d = members_cong causals _ c (item_of (part (3 + p * 429 + 365) y)) (log_at w (3 + p * 429 + 365))
         (second_length y (ey ∙ ec) ∙ ey) (λ i l. part_word w (3 + p * 429 + 365) y i (omega arith)) parts_b in
         let few : view w count ≤ 64 = omega (arith, h.sized.count_is, h.sized.few) in
         logs_law w p low block.here t.addressees t.from counts h.to f c fifos all causals ef ec
-        (omega (arith, r.fifo_few)) (omega (arith, r.causal_few)) tidy a b next good small
+        (omega (arith, r.fifo_few)) (omega (arith, r.causal_few)) tidy a d next good small
         (λ e. en ∙ nexts_law w p t.size f counts block h.sized.size_is ef
         (passed_counted w p low block.here t.addressees t.from counts h.to f c fifos all causals ef ec
-        (omega (arith, r.fifo_few)) (omega (arith, r.causal_few)) tidy a b
-        (subst (λ (k : ℕ). Senders (view w) k t.from) h.sized.count_is h.senders) few e))
+        (omega (arith, r.fifo_few)) (omega (arith, r.causal_few)) tidy a d
+        (subst (λ (k : ℕ). Senders (view w) k t.from) h.sized.count_is b.senders) few e))
 
   -- ---- the whole block
   parts_whole : front_fine (view w) p ≡ true → logs_fine (view w) p ≡ true

@@ -7,7 +7,7 @@ ghost use Rattle.sets.specs.Lowest.{Has};
 ghost use Rattle.sets.specs.Members.{Members, item_of};
 ghost use Rattle.sets.specs.Powers.{Low};
 ghost use Rattle.regions.specs.Runs.{fine_run};
-ghost use Rattle.blocks.specs.Known.{Ready, Lengths};
+ghost use Rattle.blocks.specs.Known.{Ready, Tables, Lengths};
 ghost use Rattle.blocks.specs.Logs.{tidy_logs, LogsOf};
 ghost use Rattle.blocks.specs.Process.{front_fine, processes_fine};
 ghost use Rattle.blocks.specs.Places.{outside, Stands, Rows};
@@ -17,8 +17,8 @@ use cells::Words;
 use masks::Set;
 
 // What the soundness test knows before the blocks: how many processes and messages there are, the limits of what is
-// counted, the addressees and the sender of each message, and the bits of a set. That they are those of the words is a clause,
-// `Ready`, and no ghost field: the words are lent beside it, and two tables by message are read at one place each.
+// counted, the addressees and the sender of each message, and the bits of a set. That they are those of the words are clauses,
+// `Ready` and `Tables`, and no ghost field: the words are lent beside it, and two tables by message are read at one place each.
 #[derive(Drop)]
 pub struct Known {
     pub size: usize,
@@ -73,6 +73,7 @@ struct Listed {
 
 fn logs(w: &Words, p: usize, t: &Known) -> Option<Listed>
     requires ready { Ready w.now t.now }
+    requires tables { Tables (view w.now) t.now }
     requires p_in { p < t.now.size }
     requires lengths { Lengths (view w.now) p }
     requires tidied { tidy_logs (view w.now) p ≡ true }
@@ -133,6 +134,7 @@ struct Standing {
 
 fn process(w: &Words, p: usize, t: &Known) -> Option<Standing>
     requires ready { Ready w.now t.now }
+    requires tables { Tables (view w.now) t.now }
     requires p_in { p < t.now.size }
     ensures { Stands (view w.now) p result }
 {
@@ -158,6 +160,7 @@ fn process(w: &Words, p: usize, t: &Known) -> Option<Standing>
 // Whether the blocks of all processes may stand; and then their part of the index is left in x.
 pub fn processes(w: &Words, t: &Known, x: &mut index::Table) -> bool
     requires ready { Ready w.now t.now }
+    requires tables { Tables (view w.now) t.now }
     ensures good { result ≡ processes_fine (view w.now) t.now.size }
     ensures rows { Rows (view w.now) t.now.size result x.old x.new }
 {

@@ -4,7 +4,7 @@
 // more in each contract, that it still holds the same ones.
 #![tactic(auto)]
 
-ghost use Rattle.std.specs.Prelude.{◌≡◌, ◌<◌, ◌^◌, get_or};
+ghost use Rattle.std.specs.Prelude.{◌≡◌, ◌<◌, ◌^◌, length, get_or};
 
 // The numbers of an index.
 pub type Table = [u64; 112];
@@ -19,8 +19,8 @@ pub const LISTED: usize = 80;
 pub const OPEN: usize = 96;
 
 // The addressees of message m.
-pub fn to(x: &Table, m: usize) -> u16
-    requires m_in { m < 112 }
+pub fn to(x: &[u64], m: usize) -> u16
+    requires m_in { m < length x.now }
     requires low { get_or x.now m 0 < 2 ^ 16 }
     ensures { result ≡ get_or x.now m 0 }
 {

@@ -19,7 +19,7 @@ use Rattle.sets.specs.Powers.{Powers}
 use Rattle.index.specs.Index.{Index}
 use Rattle.limits.specs.Addressees.{addressees_of}
 use Rattle.blocks.specs.declared.Known.{Known}
-use Rattle.blocks.specs.Known.{Ready}
+use Rattle.blocks.specs.Known.{Ready, Tables}
 use Rattle.blocks.specs.Places.{in_log, open_place, Rows}
 
 -- The index has room for what is known.
@@ -99,7 +99,7 @@ entered_more to from bits k q x hk pw eq hq h = record {
         ∙ get_or-set_other x (64 + q) (64 + y) v 0 (λ z. d (omega arith)))
 
 -- ---- the whole
-module _ (w : List ℕ) (t : Known) (h : Ready w t) (x₁ x₂ : List ℕ) (e : Entered t.addressees t.from t.count x₁)
+module _ (w : List ℕ) (t : Known) (h : Ready w t) (b : Tables (view w) t) (x₁ x₂ : List ℕ) (e : Entered t.addressees t.from t.count x₁)
     (r : Rows (view w) t.size true x₁ x₂) (yes : sound (view w) ≡ true) where
   en : t.size ≡ view w size
   en = h.sized.size_is
@@ -146,7 +146,7 @@ module _ (w : List ℕ) (t : Known) (h : Ready w t) (x₁ x₂ : List ℕ) (e : 
           ap (λ (b : Bool). both b (eqb (get_or t.from m 0) q)) (le-ltb m t.count l)
           ∙ sym (ap (λ (b : Bool). both b (eqb (view w (sender m)) q)) (le-ltb m (view w count) (omega arith)))
       is_own q m (inr l) =
-          ap₂ (λ (k y : ℕ). both (ltb m k) (eqb y q)) ec (h.senders.at m l)
+          ap₂ (λ (k y : ℕ). both (ltb m k) (eqb y q)) ec (b.senders.at m l)
 
       of_log : (p : ℕ) → p < 16 → (m : ℕ) → m < 64 → (t.size ≤ p) ⊎ (p < t.size)
           → bit (get_or x₂ (80 + p) 0) m ≡ in_log (view w) p m

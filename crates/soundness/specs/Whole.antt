@@ -18,8 +18,6 @@ use Rattle.heads.specs.Groups.{GroupTest}
 use Rattle.heads.specs.Messages.{heads_fine}
 use Rattle.limits.specs.Limits.{Limits}
 use Rattle.limits.specs.Addressees.{Addressees}
-use Rattle.limits.specs.Senders.{Senders}
-use Rattle.sets.specs.Powers.{Powers}
 use Rattle.regions.specs.Runs.{fine_run, run_one, run_split, run_join, run_cut}
 use Rattle.blocks.specs.declared.Known.{Known}
 use Rattle.blocks.specs.Known.{Ready}
@@ -120,8 +118,8 @@ heads_headed s k ek e = record {
 pub ready : (w : List ℕ) (t : Known) (groups c : ℕ) → Sized w t.size t.count
     → Grouped (view w) groups → Placed (view w) → Headed (view w) → c ≡ view w count
     → Limits t.size groups c t.limits
-    → Addressees (view w) t.addressees → Senders (view w) t.count t.from → Powers t.bits → Ready w t
-ready w t groups c z g p h ec l a f b = record {
+    → Addressees (view w) t.addressees → Ready w t
+ready w t groups c z g p h ec l a = record {
   sized = z;
   placed = p;
   headed = h;
@@ -135,8 +133,6 @@ ready w t groups c z g p h ec l a f b = record {
     past = l.past;
   };
   to = a;
-  senders = f;
-  powers = b;
 }
 
 -- ---- what is past the blocks of the processes

@@ -7,7 +7,7 @@ ghost use Rattle.std.specs.Prelude.{◌≡◌};
 ghost use Rattle.definitions.specs.World.{view};
 ghost use Rattle.definitions.specs.Sound.{sound};
 ghost use Rattle.heads.specs.Known.{Sized, Grouped, Placed, Headed};
-ghost use Rattle.blocks.specs.Known.{Ready};
+ghost use Rattle.blocks.specs.Known.{Ready, Tables};
 ghost use Rattle.soundness.specs.Whole.{beyond_fine};
 ghost use Rattle.soundness.specs.Indexed.{Room, Entered, Tested};
 
@@ -42,7 +42,8 @@ fn beyond(w: &Words, t: &Known) -> bool
 
 // Whether the world is sound, by what is known; and then its index is left in x.
 fn tabled(w: &Words, t: &Known, x: &mut index::Table) -> bool
-    requires { Ready w.now t.now }
+    requires ready { Ready w.now t.now }
+    requires tables { Tables (view w.now) t.now }
     ensures { Tested (view w.now) result x.new }
 {
     enter(x, t);

@@ -31,7 +31,7 @@ items : (c : After-word-f) → (n : ℕ) → n ≡ c.word-f.result
 items c n e =
     let a = c.args in
     passable a.w.now a.p a.t.now c.requires.ready c.requires.p_in (room (goal.at.After-word-f c).Else-not-front)
-    (tidy_yes (goal.at.After-word-f c).Else-not-tidy) n (e ∙ c.word-f.ensures)
+    (tidy_yes (goal.at.After-word-f c).Else-not-tidy) c.requires.tables n (e ∙ c.word-f.ensures)
 
 -- the log as a part of the words
 long : (c : After-word-f) → (n : ℕ) → n ≡ c.word-f.result

@@ -10,19 +10,19 @@ pub enter-requires : goal.enter-requires
 enter-requires c =
     let a = c.args in
     record {
-      few = c.requires.sized.few;
-      small = from_small a.w.now a.t.now c.requires;
-      powers = c.requires.powers;
+      few = c.requires.ready.sized.few;
+      small = from_small a.w.now a.t.now c.requires.ready c.requires.tables;
+      powers = c.requires.tables.powers;
     }
 
 pub returns : goal.returns
 returns c =
     let a = c.args in
-    let z = c.requires.sized in
+    let z = c.requires.ready.sized in
     let f = c.processes-first in
     let g = ap₂ both f.ensures.good c.beyond.ensures ∙ beyond_law a.w.now a.t.now.size a.t.now.count z in
     record {
       is_good = g;
-      index = λ q. index_law a.w.now a.t.now c.requires _ _ c.enter.ensures
+      index = λ q. index_law a.w.now a.t.now c.requires.ready c.requires.tables _ _ c.enter.ensures
           (rw (both_l f.result c.beyond.result q) at f.ensures.rows) (sym g ∙ q);
     }
