@@ -30,9 +30,9 @@ returns-in_err-indexed c =
     let a = c.args in
     let r = c.in_err-indexed.field-0.0 in
     let p = err_from_is_err_and c.from_residual.result c.from_residual.ensures.1 in
-    let s = c.in-Some.ensures.cases in
+    let whole = c.in-Some.ensures.cases in
     let e = not_shown a.w.now a.bytes.now a.second.now (refusal_number r) (refusal_some r)
     ((step_refused a.w.now a.bytes.now (refusal_number r) (refusal_some r)
     (rw c.in-Ok.ensures.1.same at c.in_err-indexed.ensures.answer)).0
-    ∙ sym (preview_judged a.w.now a.bytes.now a.second.now s.long)) in
-    record { answer = rw (p.1, p.2) e.0; words = s.same ∙ e.1 }
+    ∙ sym (preview_judged a.w.now a.bytes.now a.second.now whole.long)) in
+    record { answer = rw (p.1, p.2) e.0; words = whole.same ∙ e.1 }
