@@ -17,9 +17,9 @@ use Rattle.sets.specs.Lowest.{Has}
 use Rattle.sets.specs.Below.{has_none, has_more}
 use Rattle.sets.specs.Powers.{Powers}
 use Rattle.index.specs.Index.{Index}
-use Rattle.limits.specs.Addressees.{addressees_of}
+use Rattle.limits.specs.Addressees.{Addressees, addressees_of}
 use Rattle.blocks.specs.declared.Known.{Known}
-use Rattle.blocks.specs.Known.{Ready, Tables}
+use Rattle.blocks.specs.Known.{Tables}
 use Rattle.blocks.specs.Places.{in_log, open_place, Rows}
 
 -- The index has room for what is known.
@@ -99,14 +99,9 @@ entered_more to from bits k q x hk pw eq hq h = record {
         ∙ get_or-set_other x (64 + q) (64 + y) v 0 (λ z. d (omega arith)))
 
 -- ---- the whole
-module _ (w : List ℕ) (t : Known) (h : Ready w t) (b : Tables (view w) t) (x₁ x₂ : List ℕ) (e : Entered t.addressees t.from t.count x₁)
+module _ (w : List ℕ) (t : Known) (en : t.size ≡ view w size) (ec : t.count ≡ view w count) (few : t.count ≤ 64)
+    (a : Addressees (view w) t.addressees) (b : Tables (view w) t) (x₁ x₂ : List ℕ) (e : Entered t.addressees t.from t.count x₁)
     (r : Rows (view w) t.size true x₁ x₂) (yes : sound (view w) ≡ true) where
-  en : t.size ≡ view w size
-  en = h.sized.size_is
-
-  ec : t.count ≡ view w count
-  ec = h.sized.count_is
-
   -- the logs of an absent process are empty
   empty : (b : Bool) (x : ℕ) (c : Bool) → b ≡ false → word b x c ≡ true → x ≡ 0
   empty true x c q p = clash {b = true} refl q
@@ -132,7 +127,7 @@ module _ (w : List ℕ) (t : Known) (h : Ready w t) (b : Tables (view w) t) (x�
   index_law = record {
     long = r.long;
     to = λ m l. let k : m < t.count = omega arith in
-        r.before m (omega arith) ∙ e.to_at m k ∙ h.to.at m (omega arith)
+        r.before m (omega arith) ∙ e.to_at m k ∙ a.at m (omega arith)
         ∙ ap (λ (b : Bool). pick b (addressees (view w) m) 0) (lt-ltb m (view w count) l);
     own = λ q l m k. ap (λ (y : ℕ). bit y m) (r.before (64 + q) (omega arith)) ∙ e.own q l m k
         ∙ is_own q m (le_or_lt t.count m);

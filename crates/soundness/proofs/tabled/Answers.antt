@@ -23,6 +23,6 @@ returns c =
     let g = ap₂ both f.ensures.good c.beyond.ensures ∙ beyond_law a.w.now a.t.now.size a.t.now.count z in
     record {
       is_good = g;
-      index = λ q. index_law a.w.now a.t.now c.requires.ready c.requires.tables _ _ c.enter.ensures
+      index = λ q. index_law a.w.now a.t.now z.size_is z.count_is z.few c.requires.ready.to c.requires.tables _ _ c.enter.ensures
           (rw (both_l f.result c.beyond.result q) at f.ensures.rows) (sym g ∙ q);
     }
